@@ -1,0 +1,78 @@
+use borrow.Author.Needs.{needs}
+use Rattle.words.proofs.bytes.is_allowed.Statement.{statement}
+use Rattle.words.proofs.bytes.is_allowed.Tie as tie
+use Rattle.words.proofs.bytes.is_allowed.Reads as reads
+use Rattle.words.proofs.bytes.is_allowed.Lts as lts
+use Rattle.lists.proofs.both.Reads as both-reads
+use Rattle.lists.proofs.either.Reads as either-reads
+use Rattle.words.proofs.bytes.is_blank.Reads as is-blank-reads
+
+-- src/bytes.rt:17:9
+both-requires : tie.Need-both-requires
+both-requires c κs = search needs
+
+-- src/bytes.rt:18:9
+both-requires-2 : tie.Need-both-requires-2
+both-requires-2 c κs = search needs
+
+-- src/bytes.rt:19:50
+either-requires : tie.Need-either-requires
+either-requires c κs = search needs
+
+-- src/bytes.rt:19:34
+either-requires-2 : tie.Need-either-requires-2
+either-requires-2 c κs = search needs
+
+-- src/bytes.rt:19:9
+either-requires-3 : tie.Need-either-requires-3
+either-requires-3 c κs = search needs
+
+-- src/bytes.rt:20:9
+either-requires-4 : tie.Need-either-requires-4
+either-requires-4 c κs = search needs
+
+-- src/bytes.rt:21:41
+is-blank-requires : tie.Need-is-blank-requires
+is-blank-requires c κs = search needs
+
+-- src/bytes.rt:21:69
+either-requires-5 : tie.Need-either-requires-5
+either-requires-5 c κs = search needs
+
+-- src/bytes.rt:21:54
+either-requires-6 : tie.Need-either-requires-6
+either-requires-6 c κs = search needs
+
+-- src/bytes.rt:21:34
+either-requires-7 : tie.Need-either-requires-7
+either-requires-7 c κs = search needs
+
+-- src/bytes.rt:21:20
+either-requires-8 : tie.Need-either-requires-8
+either-requires-8 c κs = search needs
+
+-- src/bytes.rt:21:5
+either-requires-9 : tie.Need-either-requires-9
+either-requires-9 c κs = search needs
+
+-- src/bytes.rt:14:1
+returns : tie.Need-returns
+returns c = cc
+
+pub is-allowed-spec : {M : Type 1} → statement M
+is-allowed-spec =
+    tie.close
+    (tie.spec
+    both-requires
+    both-requires-2
+    either-requires
+    either-requires-2
+    either-requires-3
+    either-requires-4
+    is-blank-requires
+    either-requires-5
+    either-requires-6
+    either-requires-7
+    either-requires-8
+    either-requires-9
+    returns)
