@@ -1,0 +1,4 @@
+pub mod Reads
+pub mod Figures
+pub mod Letters
+pub mod Keywords

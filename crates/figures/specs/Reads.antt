@@ -1,0 +1,18 @@
+-- What every kind of word owes: a reader, a spelling, and which values are good.
+-- Assumes nothing.
+use mathlib.Core.Bool.{Bool, true, false}
+use mathlib.Core.List.{List}
+use mathlib.Core.Logic.{_⊎_}
+use mathlib.Core.Path.{_≡_}
+use Prim.Native.Nat.{ℕ}
+use Rattle.lists.specs.Choice.{pick}
+
+-- forth: a spelled good value is read as that value. back: a word is not recognised, or is the spelling of its value, which is good
+pub record Reads {V : Type 0} (read : List ℕ → V) (spell : V → List ℕ) (good : V → Bool) (none : V) : Type 0 where
+  pub forth : (v : V) → good v ≡ true → read (spell v) ≡ v
+  pub back : (w : List ℕ) → (read w ≡ none) ⊎ ((good (read w) ≡ true) × (spell (read w) ≡ w))
+  pub refuses : good none ≡ false
+
+-- the value where it is good
+abbrev pub kept : {V : Type 0} → (V → Bool) → V → V → V
+kept good none v = pick (good v) v none
