@@ -1,1 +1,73 @@
-// stub until the words branch is merged
+// Bytes to words: refusal numbers 1 to 3 with their places, and the word at a place of the text before `=`.
+ghost use mathlib.Core.Path.{_≡_};
+ghost use Prim.Native.Nat.{_+_};
+ghost use Rattle.words.specs.Check.{checkOf};
+ghost use Rattle.words.specs.Words.{spanOf};
+
+mod bytes;
+mod walks;
+
+// The refusal number with its place, or number 0 with the place of the first `=`.
+pub struct Checked {
+    pub number: u8,
+    pub place: usize,
+}
+
+// Where a word begins, and where it ends: the end is not counted.
+pub struct Span {
+    pub start: usize,
+    pub end: usize,
+}
+
+// Can words be read from these bytes? The tests go in the paper's order, each its own walk.
+pub fn check(bulletin: &[u8]) -> Checked
+    ensures { λ r. ⌜ r ≡ checkOf (now (bulletin .entry)) ⌝ }
+{
+    let length = bulletin.len();
+    if length == 0 {
+        return Checked {
+            number: 1,
+            place: 0,
+        };
+    }
+    if 2048 < length {
+        return Checked {
+            number: 1,
+            place: 0,
+        };
+    }
+    let barred = walks::first_barred(bulletin);
+    if barred < length {
+        return Checked {
+            number: 2,
+            place: barred,
+        };
+    }
+    let equals = walks::first_equals(bulletin);
+    if equals == length {
+        return Checked {
+            number: 3,
+            place: length,
+        };
+    }
+    let after = walks::first_solid(bulletin, equals + 1);
+    if after < length {
+        return Checked {
+            number: 3,
+            place: after,
+        };
+    }
+    Checked {
+        number: 0,
+        place: equals,
+    }
+}
+
+// The next word of the text from a place on: empty, at the text's length, where only blanks are left.
+pub fn word_at(text: &[u8], place: usize) -> Span
+    ensures { λ r. ⌜ r ≡ spanOf (now (text .entry)) place ⌝ }
+{
+    let start = walks::first_solid(text, place);
+    let end = walks::first_blank(text, start);
+    Span { start, end }
+}

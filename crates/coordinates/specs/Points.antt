@@ -1,0 +1,33 @@
+-- 01, "A point is a latitude word and a longitude word." "Points are equal when their latitudes are equal and their longitudes differ
+-- by 0 or 21,600."
+-- Assumes nothing.
+use mathlib.Core.Bool.{Bool, false}
+use mathlib.Core.List.{List, [], _∷_}
+use Prim.Native.Nat.{ℕ}
+use lib.Dec.{eqb}
+use lib.IntN.{ℤ, pos, negsuc, natAbs, _-ℤ_}
+use Rattle.lists.specs.Choice.{both, either}
+use Rattle.coordinates.specs.Coordinates.{northSouth, eastWest, goodCoordinate, emptyCoordinate, noCoordinate, spellCoordinate, signedOf}
+use Rattle.coordinates.specs.declared.Point.{Point}
+
+-- how far apart two signed values are
+abbrev pub apart : ℤ → ℤ → ℕ
+apart a b = natAbs (a -ℤ b)
+
+unfoldable pub samePoint : Point → Point → Bool
+samePoint p q =
+    both (eqb (apart (signedOf (p .latitude)) (signedOf (q .latitude))) 0)
+    (either (eqb (apart (signedOf (p .longitude)) (signedOf (q .longitude))) 0) (eqb (apart (signedOf (p .longitude)) (signedOf (q .longitude))) 21600))
+
+unfoldable pub goodPoint : Point → Bool
+goodPoint p = both (goodCoordinate northSouth (p .latitude)) (goodCoordinate eastWest (p .longitude))
+
+unfoldable pub emptyPoint : Point → Bool
+emptyPoint p = both (emptyCoordinate (p .latitude)) (emptyCoordinate (p .longitude))
+
+abbrev pub noPoint : Point
+noPoint = record { latitude = noCoordinate; longitude = noCoordinate }
+
+-- the two words of a point
+abbrev pub pointWords : Point → List (List ℕ)
+pointWords p = spellCoordinate northSouth (p .latitude) ∷ spellCoordinate eastWest (p .longitude) ∷ []

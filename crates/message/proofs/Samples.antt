@@ -1,0 +1,38 @@
+-- The sample evaluated: its record is good, and its canonical text is the paper's 130 bytes.
+-- Assumes nothing.
+use mathlib.Core.Bool.{true}
+use mathlib.Core.Path.{_≡_, refl}
+use lib.ListN.{length}
+use Rattle.lists.specs.Base.{worthAfter, places}
+use Rattle.lists.specs.Lists.{indexOf, allOf, same}
+use Rattle.words.specs.Words.{line}
+use Rattle.coordinates.specs.Coordinates.{goodCoordinate, emptyCoordinate, spellCoordinate, signedOf}
+use Rattle.coordinates.specs.Points.{samePoint, goodPoint, emptyPoint}
+use Rattle.figures.specs.Letters.{goodLetters}
+use Rattle.shapes.specs.Groups.{goodGroup, goodPeriod, goodTime, spellGroup, spellPeriod, spellTime}
+use Rattle.shapes.specs.Headings.{goodDesignator, goodCorrection, spellDesignator}
+use Rattle.shapes.specs.Levels.{goodLevelWord, spellLevelWord}
+use Rattle.shapes.specs.Names.{nameWord, pieces, nameText}
+use Rattle.shapes.specs.Sequences.{goodSequence, spellSequence}
+use Rattle.shapes.specs.Speeds.{unitWords, goodSpeed, spellSpeed}
+use Rattle.shapes.specs.Tables.{compassWords, intensityWords, closingWords, typeWords}
+use Rattle.message.specs.Names.{goodName, emptyName}
+use Rattle.message.specs.Places.{goodSide, emptySide, goodBound, noPoints, goodOutline, goodPlace, emptyPlace, boundWords, dashed, joined, placeWords}
+use Rattle.message.specs.Records.{goodHeading, goodLine, goodArea, namesItself, goodForm, good}
+use Rattle.message.specs.Reports.{phenomena, goodVolcano, emptyVolcano, goodPhenomenon, phenomenonWords, goodObservation, emptyObservation, observationWords, goodLevel, emptyLevel, levelWords, goodEnding, emptyEnding, endingWords, goodReport, emptyReport, reportWords}
+use Rattle.message.specs.Sample.{sample, sampleText}
+use Rattle.message.specs.Words.{headingWords, lineWords, areaWords, testTexts, formWords, bodyWords, wordsOf, textOf}
+
+pub sample-good : good sample ≡ true
+unfolding
+  good sample goodHeading goodLine goodArea goodForm goodReport goodDesignator goodLetters goodGroup goodPeriod goodSequence goodName goodPhenomenon goodObservation goodPlace goodLevel goodEnding emptyVolcano emptyName emptyPoint emptyCoordinate emptySide goodBound goodSide goodCoordinate noPoints emptyPlace goodLevelWord goodSpeed unitWords intensityWords closingWords typeWords worthAfter places allOf nameText pieces nameWord indexOf same goodTime
+sample-good = refl
+
+pub sample-text : textOf sample ≡ sampleText
+unfolding
+  textOf sample sampleText headingWords lineWords bodyWords areaWords formWords reportWords phenomenonWords observationWords placeWords levelWords endingWords spellDesignator spellGroup spellPeriod spellSequence spellTime spellLevelWord spellSpeed spellCoordinate boundWords emptySide emptyCoordinate phenomena compassWords intensityWords closingWords typeWords unitWords worthAfter places pieces line emptyName allOf
+sample-text = refl
+
+pub sample-length : length sampleText ≡ 130
+unfolding sampleText
+sample-length = refl

@@ -1,0 +1,19 @@
+-- 01, "A refusal returns an empty record, all zero."
+-- Assumes nothing.
+use Rattle.shapes.specs.Groups.{noGroup, noPeriod}
+use Rattle.shapes.specs.Headings.{noDesignator}
+use Rattle.shapes.specs.Sequences.{noSequence}
+use Rattle.message.specs.Names.{noName}
+use Rattle.message.specs.Reports.{noReport}
+use Rattle.message.specs.declared.Form.the-variants.{NoForm}
+use Rattle.message.specs.declared.Record.{Record}
+
+abbrev pub noRecord : Record
+noRecord =
+    record {
+      heading = record { designator = noDesignator; centre = 0; time = noGroup; correction = 0 };
+      line = record { unit = 0; sequence = noSequence; valid = noPeriod; office = 0 };
+      area = record { indicator = 0; name = noName; closing = 0 };
+      form = NoForm;
+      report = noReport
+    }

@@ -1,0 +1,60 @@
+-- 01, the whole record: heading, first line, area, and then "one of: a test; a cancellation; a report".
+-- "a record with anything else there, or with any part outside the rules above, is a bad record, and every other is good."
+-- Assumes nothing.
+use mathlib.Core.Bool.{Bool, false, not}
+use Prim.Native.Nat.{ℕ}
+use lib.Dec.{eqb}
+use Rattle.lists.specs.Choice.{both, either}
+use Rattle.words.specs.Bytes.{between}
+use Rattle.figures.specs.Letters.{goodLetters}
+use Rattle.shapes.specs.Groups.{goodGroup, goodPeriod, noGroup, noPeriod}
+use Rattle.shapes.specs.Headings.{goodDesignator, goodCorrection, noDesignator}
+use Rattle.shapes.specs.Sequences.{goodSequence, noSequence}
+use Rattle.shapes.specs.Tables.{goodClosing}
+use Rattle.shapes.specs.declared.Group.{Group}
+use Rattle.shapes.specs.declared.Sequence.{Sequence}
+use Rattle.message.specs.Limits.{areaLimit}
+use Rattle.message.specs.Names.{goodName, noName}
+use Rattle.message.specs.Reports.{goodReport, emptyReport, noReport}
+use Rattle.message.specs.declared.Area.{Area}
+use Rattle.message.specs.declared.FirstLine.{FirstLine}
+use Rattle.message.specs.declared.Form.{Form}
+use Rattle.message.specs.declared.Form.the-variants.{NoForm, Test, Cancellation, Reported}
+use Rattle.message.specs.declared.Heading.{Heading}
+use Rattle.message.specs.declared.Record.{Record}
+
+-- "Heading: `WS` or `WV`, two letters, two digits, as one word; four letters (centre); day, hour, minute in six digits; then perhaps a
+-- correction"
+unfoldable pub goodHeading : Heading → Bool
+goodHeading h =
+    both (goodDesignator (h .designator))
+    (both (goodLetters 4 (h .centre)) (both (goodGroup (h .time)) (either (eqb (h .correction) 0) (goodCorrection (h .correction)))))
+
+-- "First line: four letters (unit), `SIGMET`, sequence, `VALID`, `group/group`, four letters and a hyphen."
+unfoldable pub goodLine : FirstLine → Bool
+goodLine l = both (goodLetters 4 (l .unit)) (both (goodSequence (l .sequence)) (both (goodPeriod (l .valid)) (goodLetters 4 (l .office))))
+
+-- "four letters (area; it may differ from the unit), a name, then `FIR`, `FIR/UIR` or `CTA`"
+unfoldable pub goodArea : Area → Bool
+goodArea a = both (goodLetters 4 (a .indicator)) (both (goodName false areaLimit (a .name)) (goodClosing (a .closing)))
+
+abbrev pub sameSequence : Sequence → Sequence → Bool
+sameSequence s t = both (eqb (s .letter) (t .letter)) (both (eqb (s .digits) (t .digits)) (eqb (s .number) (t .number)))
+
+abbrev pub sameGroup : Group → Group → Bool
+sameGroup g h = both (eqb (g .day) (h .day)) (both (eqb (g .hour) (h .hour)) (eqb (g .minute) (h .minute)))
+
+-- "Sequence and both groups are not all those of the message itself": the second group is that of VALID in any case
+unfoldable pub namesItself : FirstLine → Sequence → Group → Bool
+namesItself l s from = both (sameSequence s (l .sequence)) (sameGroup from (l .valid .from))
+
+-- "Then one of: a test …; a cancellation …; a report …"
+unfoldable pub goodForm : Record → Form → Bool
+goodForm r NoForm = false
+goodForm r (Test n) = both (between 1 3 n) (emptyReport (r .report))
+goodForm r (Cancellation s from) =
+    both (both (goodSequence s) (both (goodGroup from) (not (namesItself (r .line) s from)))) (emptyReport (r .report))
+goodForm r Reported = goodReport (r .heading .designator .kind) (r .report)
+
+unfoldable pub good : Record → Bool
+good r = both (goodHeading (r .heading)) (both (goodLine (r .line)) (both (goodArea (r .area)) (goodForm r (r .form))))

@@ -1,0 +1,176 @@
+-- 01, "a report: phenomenon, observation, location, level, then the ending."
+-- Assumes nothing.
+use mathlib.Core.Bool.{Bool, true, false}
+use mathlib.Core.List.{List, [], _∷_, _++_}
+use Prim.Native.Nat.{ℕ, _-_}
+use lib.Dec.{leb, eqb}
+use lib.ListN.{getD, take}
+use Rattle.lists.specs.Choice.{pick, both, either}
+use Rattle.lists.specs.Text.{bytes}
+use Rattle.words.specs.Bytes.{between}
+use Rattle.figures.specs.Keywords.{wordOf}
+use Rattle.coordinates.specs.Points.{goodPoint, emptyPoint, noPoint, pointWords}
+use Rattle.shapes.specs.Groups.{goodTime, spellTime}
+use Rattle.shapes.specs.Levels.{flight, goodLevelWord, spellLevelWord}
+use Rattle.shapes.specs.Speeds.{goodSpeed, spellSpeed}
+use Rattle.shapes.specs.Tables.{compassWords, intensityWords, goodIntensity, numbered}
+use Rattle.shapes.specs.declared.Level.{Level}
+use Rattle.shapes.specs.declared.Level.the-variants.{NoLevel, Flight, SurfaceFlight, SurfaceMetres, SurfaceFeet, Band, TopFlight, AboveFlight, TopAboveFlight}
+use Rattle.shapes.specs.declared.Time.{Time}
+use Rattle.message.specs.Limits.{mountainLimit}
+use Rattle.message.specs.Names.{goodName, emptyName, noName, nameWords}
+use Rattle.message.specs.Places.{goodPlace, emptyPlace, noPlace, placeWords}
+use Rattle.message.specs.declared.Ending.{Ending}
+use Rattle.message.specs.declared.Ending.the-variants.{NoEnding, Moving, Stationary, Forecast}
+use Rattle.message.specs.declared.Observation.{Observation}
+use Rattle.message.specs.declared.Place.{Place}
+use Rattle.message.specs.declared.Report.{Report}
+use Rattle.message.specs.declared.Volcano.{Volcano}
+
+-- "Phenomenon, WS: `OBSC`, `EMBD`, `FRQ` or `SQL` with `TS` or `TSGR`; `SEV TURB`; `SEV ICE`; `SEV ICE (FZRA)`; `SEV MTW`; `HVY DS`;
+-- `HVY SS`; `RDOACT CLD`. WV: `VA CLD`, or `VA ERUPTION`, …": numbered from 1 in this order. The words up to where the volcano is told.
+unfoldable pub phenomena : List (List (List ℕ))
+phenomena =
+    (bytes "OBSC" ∷ bytes "TS" ∷ [])
+    ∷ (bytes "OBSC" ∷ bytes "TSGR" ∷ [])
+    ∷ (bytes "EMBD" ∷ bytes "TS" ∷ [])
+    ∷ (bytes "EMBD" ∷ bytes "TSGR" ∷ [])
+    ∷ (bytes "FRQ" ∷ bytes "TS" ∷ [])
+    ∷ (bytes "FRQ" ∷ bytes "TSGR" ∷ [])
+    ∷ (bytes "SQL" ∷ bytes "TS" ∷ [])
+    ∷ (bytes "SQL" ∷ bytes "TSGR" ∷ [])
+    ∷ (bytes "SEV" ∷ bytes "TURB" ∷ [])
+    ∷ (bytes "SEV" ∷ bytes "ICE" ∷ [])
+    ∷ (bytes "SEV" ∷ bytes "ICE" ∷ bytes "(FZRA)" ∷ [])
+    ∷ (bytes "SEV" ∷ bytes "MTW" ∷ [])
+    ∷ (bytes "HVY" ∷ bytes "DS" ∷ [])
+    ∷ (bytes "HVY" ∷ bytes "SS" ∷ [])
+    ∷ (bytes "RDOACT" ∷ bytes "CLD" ∷ [])
+    ∷ (bytes "VA" ∷ bytes "CLD" ∷ [])
+    ∷ (bytes "VA" ∷ bytes "ERUPTION" ∷ [])
+    ∷ []
+
+-- "WV: …, or `VA ERUPTION`, perhaps `MT` and a name (…), `PSN`, a point, `VA CLD`"
+unfoldable pub goodVolcano : Volcano → Bool
+goodVolcano v = both (either (emptyName (v .name)) (goodName true mountainLimit (v .name))) (goodPoint (v .position))
+
+unfoldable pub emptyVolcano : Volcano → Bool
+emptyVolcano v = both (emptyName (v .name)) (emptyPoint (v .position))
+
+abbrev pub noVolcano : Volcano
+noVolcano = record { name = noName; position = noPoint }
+
+-- WS (kind 2) has the first fifteen, WV (kind 3) the last two; only the last tells of a volcano
+unfoldable pub goodPhenomenon : ℕ → ℕ → Volcano → Bool
+goodPhenomenon kind n v =
+    either (both (eqb kind 2) (both (between 1 15 n) (emptyVolcano v)))
+    (both (eqb kind 3) (either (both (eqb n 16) (emptyVolcano v)) (both (eqb n 17) (goodVolcano v))))
+
+abbrev pub mountWords : Volcano → List (List ℕ)
+mountWords v = pick (emptyName (v .name)) [] (bytes "MT" ∷ nameWords (v .name))
+
+abbrev pub volcanoWords : Volcano → List (List ℕ)
+volcanoWords v = mountWords v ++ (bytes "PSN" ∷ (pointWords (v .position) ++ (bytes "VA" ∷ bytes "CLD" ∷ [])))
+
+unfoldable pub phenomenonWords : ℕ → Volcano → List (List ℕ)
+phenomenonWords n v = getD phenomena (n - 1) [] ++ pick (eqb n 17) (volcanoWords v) []
+
+-- "Observation: `OBS` or `FCST`, perhaps `AT GGggZ`."
+unfoldable pub goodObservation : Observation → Bool
+goodObservation o =
+    both (between 1 2 (o .word)) (pick (o .timed) (goodTime (o .time)) (both (eqb (o .time .hour) 0) (eqb (o .time .minute) 0)))
+
+abbrev pub notTrue : Bool → Bool
+notTrue true = false
+notTrue false = true
+
+unfoldable pub emptyObservation : Observation → Bool
+emptyObservation o = both (eqb (o .word) 0) (both (notTrue (o .timed)) (both (eqb (o .time .hour) 0) (eqb (o .time .minute) 0)))
+
+abbrev pub noObservation : Observation
+noObservation = record { word = 0; timed = false; time = record { hour = 0; minute = 0 } }
+
+unfoldable pub observationWords : Observation → List (List ℕ)
+observationWords o =
+    pick (eqb (o .word) 1) (bytes "OBS") (bytes "FCST") ∷ pick (o .timed) (bytes "AT" ∷ spellTime (o .time) ∷ []) []
+
+-- "…, `TOP FLnnn`, `ABV FLnnn`, `TOP ABV FLnnn`. No number is zero."
+unfoldable pub goodLevel : Level → Bool
+goodLevel NoLevel = false
+goodLevel (Flight n) = goodLevelWord (Flight n)
+goodLevel (SurfaceFlight n) = goodLevelWord (SurfaceFlight n)
+goodLevel (SurfaceMetres n) = goodLevelWord (SurfaceMetres n)
+goodLevel (SurfaceFeet n) = goodLevelWord (SurfaceFeet n)
+goodLevel (Band low high) = goodLevelWord (Band low high)
+goodLevel (TopFlight n) = flight n
+goodLevel (AboveFlight n) = flight n
+goodLevel (TopAboveFlight n) = flight n
+
+unfoldable pub emptyLevel : Level → Bool
+emptyLevel NoLevel = true
+emptyLevel (Flight n) = false
+emptyLevel (SurfaceFlight n) = false
+emptyLevel (SurfaceMetres n) = false
+emptyLevel (SurfaceFeet n) = false
+emptyLevel (Band low high) = false
+emptyLevel (TopFlight n) = false
+emptyLevel (AboveFlight n) = false
+emptyLevel (TopAboveFlight n) = false
+
+unfoldable pub levelWords : Level → List (List ℕ)
+levelWords NoLevel = []
+levelWords (Flight n) = spellLevelWord (Flight n) ∷ []
+levelWords (SurfaceFlight n) = spellLevelWord (SurfaceFlight n) ∷ []
+levelWords (SurfaceMetres n) = spellLevelWord (SurfaceMetres n) ∷ []
+levelWords (SurfaceFeet n) = spellLevelWord (SurfaceFeet n) ∷ []
+levelWords (Band low high) = spellLevelWord (Band low high) ∷ []
+levelWords (TopFlight n) = bytes "TOP" ∷ spellLevelWord (Flight n) ∷ []
+levelWords (AboveFlight n) = bytes "ABV" ∷ spellLevelWord (Flight n) ∷ []
+levelWords (TopAboveFlight n) = bytes "TOP" ∷ bytes "ABV" ∷ spellLevelWord (Flight n) ∷ []
+
+-- "Ending: either `MOV`, a compass point, `nnKT` or `nnKMH` (01 to 99), or `STNR`, then `INTSF`, `WKN` or `NC`; or, in WS only, the
+-- intensity word first and then `FCST AT GGggZ` and a location, …. Exactly one of the two."
+unfoldable pub goodEnding : ℕ → Ending → Place → Bool
+goodEnding kind NoEnding f = false
+goodEnding kind (Moving d s i) f = both (both (leb d 15) (both (goodSpeed s) (goodIntensity i))) (emptyPlace f)
+goodEnding kind (Stationary i) f = both (goodIntensity i) (emptyPlace f)
+goodEnding kind (Forecast i) f = both (both (eqb kind 2) (goodIntensity i)) (goodPlace f)
+
+unfoldable pub emptyEnding : Ending → Bool
+emptyEnding NoEnding = true
+emptyEnding (Moving d s i) = false
+emptyEnding (Stationary i) = false
+emptyEnding (Forecast i) = false
+
+abbrev pub intensityWord : ℕ → List ℕ
+intensityWord i = numbered 1 intensityWords i
+
+-- "the time being that of the end of VALID", the area's closing word telling what the entire area is called
+unfoldable pub endingWords : Time → ℕ → Ending → Place → List (List ℕ)
+endingWords end closing NoEnding f = []
+endingWords end closing (Moving d s i) f = bytes "MOV" ∷ wordOf compassWords d ∷ spellSpeed s ∷ intensityWord i ∷ []
+endingWords end closing (Stationary i) f = bytes "STNR" ∷ intensityWord i ∷ []
+endingWords end closing (Forecast i) f = intensityWord i ∷ bytes "FCST" ∷ bytes "AT" ∷ spellTime end ∷ placeWords closing f
+
+-- a report of a bulletin of that kind
+unfoldable pub goodReport : ℕ → Report → Bool
+goodReport kind r =
+    both (goodPhenomenon kind (r .phenomenon) (r .volcano))
+    (both (goodObservation (r .observation))
+    (both (goodPlace (r .place)) (both (goodLevel (r .level)) (goodEnding kind (r .ending) (r .forecast)))))
+
+unfoldable pub emptyReport : Report → Bool
+emptyReport r =
+    both (both (eqb (r .phenomenon) 0) (emptyVolcano (r .volcano)))
+    (both (emptyObservation (r .observation))
+    (both (emptyPlace (r .place)) (both (emptyLevel (r .level)) (both (emptyEnding (r .ending)) (emptyPlace (r .forecast))))))
+
+abbrev pub noReport : Report
+noReport =
+    record { phenomenon = 0; volcano = noVolcano; observation = noObservation; place = noPlace; level = NoLevel; ending = NoEnding; forecast = noPlace }
+
+unfoldable pub reportWords : Time → ℕ → Report → List (List ℕ)
+reportWords end closing r =
+    phenomenonWords (r .phenomenon) (r .volcano)
+    ++ (observationWords (r .observation)
+    ++ (placeWords closing (r .place) ++ (levelWords (r .level) ++ endingWords end closing (r .ending) (r .forecast))))

@@ -1,0 +1,56 @@
+-- `walks::first_solid` meets its contract: the loop keeps what is still to be found. Assumes nothing.
+use Prim.Native.Nat.{_-_}
+use mathlib.Core.Path.{_≡_, refl}
+use native.Mathlib.Omega.{arith}
+use borrow.Author.Needs.{needs}
+use lib.ListN.{length}
+use Rattle.lists.specs.Lists.{indexFrom}
+use Rattle.words.specs.Bytes.{solid}
+use Rattle.words.proofs.Walk.{walk-found, walk-past, walk-none}
+use Rattle.words.proofs.walks.first_solid.Statement.{statement}
+use Rattle.words.proofs.walks.first_solid.Tie as tie
+
+abbrev Inv-loop : tie.InvT-loop
+Inv-loop b start i₀ i = indexFrom solid start b ≡ indexFrom solid i b
+
+abbrev μ-loop : tie.MeasureT-loop
+μ-loop b start i₀ i = length b - i
+
+loop-holds : tie.Need-loop-holds Inv-loop μ-loop
+loop-holds c = refl
+
+shared-slice-read-is-blank : tie.Need-shared-slice-read-is-blank Inv-loop μ-loop
+shared-slice-read-is-blank c = omega arith
+
+is-blank-requires : tie.Need-is-blank-requires Inv-loop μ-loop
+is-blank-requires c κs = search needs
+
+returns : tie.Need-returns Inv-loop μ-loop
+returns c = walk-found solid (c .before .before .before .before .before .before .args .b .now) (c .before .before .before .before .loop .i) (c .before .before .before .before .loop .inv) (omega arith) (cc)
+
+add-i : tie.Need-add-i Inv-loop μ-loop
+add-i c = omega arith
+
+loop-less : tie.Need-loop-less Inv-loop μ-loop
+loop-less c = omega arith
+
+loop-again : tie.Need-loop-again Inv-loop μ-loop
+loop-again c = walk-past solid (c .before .before .before .before .before .before .args .b .now) (c .before .before .before .before .loop .i) (c .before .before .before .before .loop .inv) (omega arith) (cc)
+
+returns-2 : tie.Need-returns-2 Inv-loop μ-loop
+returns-2 c = walk-none solid (c .before .before .before .args .b .now) (c .before .loop .i) (c .before .loop .inv) (omega arith)
+
+pub first-solid-spec : {M : Type 1} → statement M
+first-solid-spec =
+    tie.close
+    (tie.spec
+    Inv-loop
+    μ-loop
+    loop-holds
+    shared-slice-read-is-blank
+    is-blank-requires
+    returns
+    add-i
+    loop-less
+    loop-again
+    returns-2)

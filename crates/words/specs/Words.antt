@@ -1,0 +1,56 @@
+-- 01, "From bytes to words": "Words are the longest runs without space, CR or LF before the first `=`; that `=` is the last word."
+-- A text here is what stands before the first `=`. The `=` itself is the last word, with no byte of its own, at the text's length.
+-- Assumes nothing.
+use mathlib.Core.Bool.{Bool}
+use mathlib.Core.List.{List, [], _∷_, _++_, map}
+use Prim.Native.Nat.{ℕ, suc, _+_, _-_}
+use lib.Dec.{ltb}
+use lib.ListN.{length, drop}
+use Rattle.lists.specs.Choice.{pick, both}
+use Rattle.lists.specs.Lists.{indexFrom, part, allOf}
+use Rattle.words.specs.Bytes.{blank, solid}
+use Rattle.words.specs.declared.Span.{Span}
+
+-- a word and the place where it begins
+pub record Word : Type 0 where
+  pub place : ℕ
+  pub bytes : List ℕ
+
+-- the word w ends before place p, where it is a word at all; then the words ws
+abbrev pub ended : List ℕ → ℕ → List Word → List Word
+ended [] p ws = ws
+ended (b ∷ w) p ws = record { place = p - length (b ∷ w); bytes = b ∷ w } ∷ ws
+
+-- the words from place p on: w is what was read of a word so far, and then come the bytes
+unfoldable pub scan : ℕ → List ℕ → List ℕ → List Word
+scan p w [] = ended w p (record { place = p; bytes = [] } ∷ [])
+scan p w (b ∷ bs) = pick (blank b) (ended w p (scan (suc p) [] bs)) (scan (suc p) (w ++ (b ∷ [])) bs)
+
+-- the words of the text t from place p on, the `=` last
+abbrev pub wordsAt : List ℕ → ℕ → List Word
+wordsAt t p = scan p [] (drop p t)
+
+-- the words of the text t without their places, the `=` last, as the word of no byte
+abbrev pub wordsIn : List ℕ → List (List ℕ)
+wordsIn t = map (λ (w : Word). w .bytes) (wordsAt t 0)
+
+-- where the next word from a place on begins and ends
+unfoldable pub spanOf : List ℕ → ℕ → Span
+spanOf t p = record { start = indexFrom solid p t; end = indexFrom blank (indexFrom solid p t) t }
+
+-- a run: it is not empty, and every byte of it passes the test
+abbrev pub runOf : (ℕ → Bool) → List ℕ → Bool
+runOf f w = both (ltb 0 (length w)) (allOf f w)
+
+-- a run without blanks is a word, and a run of blanks stands between words
+abbrev pub solidWord : List ℕ → Bool
+solidWord w = runOf solid w
+
+abbrev pub gap : List ℕ → Bool
+gap s = runOf blank s
+
+-- words joined by single spaces
+unfoldable pub line : List (List ℕ) → List ℕ
+line [] = []
+line (w ∷ []) = w
+line (w ∷ v ∷ ws) = w ++ (32 ∷ line (v ∷ ws))
