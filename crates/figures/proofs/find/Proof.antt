@@ -1,45 +1,45 @@
+-- `find` meets its contract: the loop keeps what is still to be found. Assumes nothing.
+use mathlib.Core.Path.{_≡_, sym, _∙_}
+use Prim.Native.Nat.{_-_}
+use native.Mathlib.Omega.{arith}
+use lib.Dec.{eqb}
+use lib.ListN.{length}
+use borrow.Author.Needs.{needs}
+use borrow.Author.Tests.{eq-eqb, ne-eqb}
+use Rattle.lists.specs.Lists.{indexOf, indexFrom}
+use Rattle.lists.proofs.Lists.{from-zero, from-here, from-past, from-none}
 use Rattle.figures.proofs.find.Statement.{statement}
 use Rattle.figures.proofs.find.Tie as tie
-use Rattle.figures.proofs.find.Reads as reads
-use Rattle.figures.proofs.find.Lts as lts
 
 abbrev Inv-loop : tie.InvT-loop
-Inv-loop table code i₀ i = ?
+Inv-loop table code i₀ i = indexOf (eqb code) table ≡ indexFrom (eqb code) i table
 
 abbrev μ-loop : tie.MeasureT-loop
-μ-loop table code i₀ i = ?
+μ-loop table code i₀ i = length table - i
 
--- src/lib.rt:104:5
 loop-holds : tie.Need-loop-holds Inv-loop μ-loop
-loop-holds c = ?
+loop-holds c = sym (from-zero (eqb _) _)
 
--- src/lib.rt:105:20
 mul-if1 : tie.Need-mul-if1 Inv-loop μ-loop
-mul-if1 c = ?
+mul-if1 c = search needs
 
--- src/lib.rt:105:20
 shared-slice-read-if1 : tie.Need-shared-slice-read-if1 Inv-loop μ-loop
-shared-slice-read-if1 c = ?
+shared-slice-read-if1 c = omega arith
 
--- src/lib.rt:106:13
 returns : tie.Need-returns Inv-loop μ-loop
-returns c = ?
+returns c = sym (c .before .before .before .loop .inv ∙ from-here (eqb _) _ _ 0 (omega arith) (eq-eqb _ _ (c .if1 .taken)))
 
--- src/lib.rt:108:9
 add-i : tie.Need-add-i Inv-loop μ-loop
-add-i c = ?
+add-i c = omega arith
 
--- src/lib.rt:104:5
 loop-less : tie.Need-loop-less Inv-loop μ-loop
-loop-less c = ?
+loop-less c = omega arith
 
--- src/lib.rt:104:5
 loop-again : tie.Need-loop-again Inv-loop μ-loop
-loop-again c = ?
+loop-again c = c .before .before .before .loop .inv ∙ from-past (eqb _) _ _ 0 (omega arith) (ne-eqb _ _ (c .if1 .left))
 
--- src/lib.rt:100:1
 returns-2 : tie.Need-returns-2 Inv-loop μ-loop
-returns-2 c = ?
+returns-2 c = sym (c .before .loop .inv ∙ from-none (eqb _) _ _ (omega arith))
 
 pub find-spec : {M : Type 1} → statement M
 find-spec =

@@ -1,3 +1,16 @@
+-- `letters` meets its contract: the loop keeps what the letters still to be read add to the number. Assumes nothing.
+use mathlib.Core.Bool.{true}
+use mathlib.Core.Path.{_≡_, refl, sym, _∙_}
+use Prim.Native.Nat.{_-_, _<_}
+use native.Mathlib.Omega.{arith}
+use lib.ListN.{length, getD}
+use borrow.Author.Needs.{needs}
+use borrow.Author.Tests.{le-leb, lt-leb, ne-eqb, not-true, not-false}
+use Rattle.lists.specs.Base.{worth}
+use Rattle.words.specs.Bytes.{letter}
+use Rattle.figures.specs.Letters.{lettersOf}
+use Rattle.figures.proofs.Reading.{Reading, begins, fits, goes, barred, passed, told}
+use Rattle.figures.proofs.LetterLaws.{letter-small, letters-barred, letters-told}
 use Rattle.figures.proofs.letters.Statement.{statement}
 use Rattle.figures.proofs.letters.Tie as tie
 use Rattle.figures.proofs.letters.Reads as reads
@@ -5,62 +18,60 @@ use Rattle.figures.proofs.letters.Lts as lts
 use Rattle.figures.proofs.is_letter.Reads as is-letter-reads
 
 abbrev Inv-loop : tie.InvT-loop
-Inv-loop w k n₀ i₀ n i = ?
+Inv-loop w k n₀ i₀ n i = Reading 256 0 4 letter w w n i
 
 abbrev μ-loop : tie.MeasureT-loop
-μ-loop w k n₀ i₀ n i = ?
+μ-loop w k n₀ i₀ n i = length w - i
 
--- src/lib.rt:29:9
+-- the byte that is read is a letter
+read-letter : (c : lts.Else3 (is-letter-reads.Asked, is-letter-reads.Learnt) reads.Pre reads.Post Inv-loop μ-loop) → letter (getD (c .before .before .before .before .before .before .before .before .args .w .now) (c .before .before .before .before .loop .i) 0) ≡ true
+read-letter c = sym (c .before .is-letter .ensures) ∙ not-false _ (c .if3 .left)
+
+read-small : (c : lts.Else3 (is-letter-reads.Asked, is-letter-reads.Learnt) reads.Pre reads.Post Inv-loop μ-loop) → getD (c .before .before .before .before .before .before .before .before .args .w .now) (c .before .before .before .before .loop .i) 0 < 256
+read-small c = letter-small _ (read-letter c)
+
 returns : tie.Need-returns Inv-loop μ-loop
-returns c = ?
+unfolding lettersOf
+returns c = rw (lt-leb (c .before .before .args .k) 4 (omega arith))
 
--- src/lib.rt:32:9
 returns-2 : tie.Need-returns-2 Inv-loop μ-loop
-returns-2 c = ?
+unfolding lettersOf
+returns-2 c = rw (le-leb (c .before .before .before .args .k) 4 (omega arith), ne-eqb (length (c .before .before .before .args .w .now)) (c .before .before .before .args .k) (c .if2 .taken))
 
--- src/lib.rt:36:5
 loop-holds : tie.Need-loop-holds Inv-loop μ-loop
-loop-holds c = ?
+loop-holds c = begins 256 0 4 letter _ _ (omega arith)
 
--- src/lib.rt:37:17
 shared-slice-read-x : tie.Need-shared-slice-read-x Inv-loop μ-loop
-shared-slice-read-x c = ?
+shared-slice-read-x c = omega arith
 
--- src/lib.rt:38:13
 is-letter-requires : tie.Need-is-letter-requires Inv-loop μ-loop
-is-letter-requires c κs = ?
+is-letter-requires c κs = search needs
 
--- src/lib.rt:39:13
 returns-3 : tie.Need-returns-3 Inv-loop μ-loop
-returns-3 c = ?
+returns-3 c = letters-barred _ _ (barred 256 0 4 letter _ _ (c .before .before .before .before .loop .inv) (omega arith) (sym (c .before .is-letter .ensures) ∙ not-true _ (c .if3 .taken)))
 
--- src/lib.rt:41:13
 mul-n : tie.Need-mul-n Inv-loop μ-loop
-mul-n c = ?
+mul-n c = omega (arith, fits 256 0 4 letter _ _ (c .before .before .before .before .loop .inv) {d = 0} (omega arith) (omega arith))
 
--- src/lib.rt:41:23
 cast-n : tie.Need-cast-n Inv-loop μ-loop
-cast-n c = ?
+cast-n c = omega (arith, read-small c)
 
--- src/lib.rt:41:13
 add-n : tie.Need-add-n Inv-loop μ-loop
-add-n c = ?
+add-n c = omega (arith, fits 256 0 4 letter _ _ (c .before .before .before .before .loop .inv) (omega arith) (read-small c))
 
--- src/lib.rt:42:9
 add-i : tie.Need-add-i Inv-loop μ-loop
-add-i c = ?
+add-i c = omega arith
 
--- src/lib.rt:36:5
 loop-less : tie.Need-loop-less Inv-loop μ-loop
-loop-less c = ?
+loop-less c = omega arith
 
--- src/lib.rt:36:5
 loop-again : tie.Need-loop-again Inv-loop μ-loop
-loop-again c = ?
+loop-again c = goes 256 0 4 letter _ _ (c .before .before .before .before .loop .inv) (omega arith) refl (read-letter c) refl (read-small c)
 
--- src/lib.rt:25:1
 returns-4 : tie.Need-returns-4 Inv-loop μ-loop
-returns-4 c = ?
+returns-4 c =
+    let m : c .before .loop .n ≡ worth 256 (c .before .before .before .before .before .args .w .now) = told 256 0 4 letter _ _ (c .before .loop .inv) (omega arith) refl in
+    letters-told (c .before .before .before .before .before .args .k) (c .before .before .before .before .before .args .w .now) (omega arith) (omega arith) (passed 256 0 4 letter _ _ (c .before .loop .inv) (omega arith)) m
 
 pub letters-spec : {M : Type 1} → statement M
 letters-spec =

@@ -1,0 +1,20 @@
+-- What figures count and how a number is written in them.
+-- Assumes nothing.
+use mathlib.Core.Bool.{Bool, true, false}
+use mathlib.Core.Path.{_≡_}
+use Prim.Native.Nat.{ℕ, _≤_, _<_}
+use native.Mathlib.Omega.{arith}
+use lib.Dec.{leb}
+use borrow.Author.Tests.{leb-true}
+use Rattle.words.specs.Bytes.{digit}
+use Rattle.figures.specs.Figures.{figure}
+use Rattle.lists.proofs.Choice.{both-left, both-right}
+
+pub digit-low : (x : ℕ) → digit x ≡ true → 48 ≤ x
+digit-low x e = leb-true 48 x (both-left (leb 48 x) (leb x 57) e)
+
+pub digit-high : (x : ℕ) → digit x ≡ true → x ≤ 57
+digit-high x e = leb-true x 57 (both-right (leb 48 x) (leb x 57) e)
+
+pub figure-small : (x : ℕ) → digit x ≡ true → figure x < 10
+figure-small x e = omega (arith, digit-high x e)
