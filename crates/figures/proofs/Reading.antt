@@ -52,7 +52,8 @@ module _ (b v most : ℕ) (f : ℕ → Bool) (w ds : List ℕ) where
       short = r .short;
       small = rw add-one (grows k);
       worths = r .worths ∙ (rw at at (worth-past b n ds i (omega arith)));
-      passes = r .passes ∙ all-past f w i 0 h e }
+      passes = r .passes ∙ all-past f w i 0 h e;
+    }
 
     pub barred : i < length w → f (getD w i 0) ≡ false → allOf f w ≡ false
     barred h e = r .passes ∙ all-stop f w i 0 h e

@@ -6,7 +6,6 @@ ghost use Rattle.words.specs.Bytes.{letter, digit};
 ghost use Rattle.figures.specs.Figures.{figuresOf, twoOf, threeOf};
 ghost use Rattle.figures.specs.Letters.{lettersOf};
 ghost use Rattle.figures.specs.Keywords.{codeOf};
-
 use lists::both;
 
 pub fn is_letter(x: u8) -> bool
