@@ -1,7 +1,7 @@
 -- The laws of searching and testing a list, in the shapes that loops ask for.
 -- Assumes nothing.
 use mathlib.Core.Bool.{Bool, true, false}
-use mathlib.Core.List.{List, [], _∷_, _++_}
+use mathlib.Core.List.{List, [], _∷_, _++_, map}
 use mathlib.Core.Path.{_≡_, refl, ap, sym, _∙_}
 use Prim.Native.Nat.{ℕ, zero, suc, _+_, _-_, _≤_, _<_, zero-le, suc-le-suc}
 use native.Mathlib.Nat.{zero-add, suc-add, add-suc, add-zero, not-suc-le-zero, le-of-suc-le-suc}
@@ -111,6 +111,11 @@ unfolding allOf
 all-drop f zero xs t = t
 all-drop f (suc n) [] t = refl
 all-drop f (suc n) (x ∷ xs) t = all-drop f n xs (both-right (f x) (allOf f xs) t)
+
+pub all-map : {A B : Type 0} (f : B → Bool) (g : A → B) (xs : List A) → allOf f (map g xs) ≡ allOf (λ (x : A). f (g x)) xs
+unfolding allOf
+all-map f g [] = refl
+all-map f g (x ∷ xs) = ap (both (f (g x))) (all-map f g xs)
 
 -- Sameness is equality.
 
