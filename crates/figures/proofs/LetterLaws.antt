@@ -64,6 +64,7 @@ letters-back k w = by test yes (λ e. inl (pick-false (worth 256 w) 0 e))
   where
     test : Bool
     test = both (leb k 4) (both (eqb (length w) k) (allOf letter w))
+
     yes : test ≡ true → (lettersOf k w ≡ 0) ⊎ ((goodLetters k (lettersOf k w) ≡ true) × (inLetters k (lettersOf k w) ≡ w))
     yes e =
         let is : lettersOf k w ≡ worth 256 w = pick-true (worth 256 w) 0 e in

@@ -1,3 +1,4 @@
 pub mod Reading
 pub mod FigureLaws
 pub mod LetterLaws
+pub mod Keywords
