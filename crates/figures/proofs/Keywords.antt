@@ -1,19 +1,18 @@
 -- Fixed words: equal codes are equal words, and a word's number in a table and the word of a number undo one another.
 -- Assumes nothing.
-use mathlib.Core.Bool.{Bool, true, false, not}
+use mathlib.Core.Bool.{true, false, not}
 use mathlib.Core.List.{List, [], _∷_, map}
 use mathlib.Core.Logic.{_⊎_, inl, inr}
 use mathlib.Core.Path.{_≡_, refl, ap, sym, _∙_}
 use Prim.Native.Nat.{ℕ, zero, suc, _+_, _*_, _^_, _≤_, _<_}
-use native.Mathlib.Nat.{pow-zero, pow-succ', mul-assoc, mul-le-mul-right, mul-one, one-mul, le-trans, le-of-eq, one-le-pow, pow-le-pow-right, not-suc-le-zero, le-of-suc-le-suc, le-refl, zero-add}
+use native.Mathlib.Nat.{pow-zero, pow-succ', mul-assoc, mul-le-mul-right, mul-one, one-mul, le-trans, one-le-pow, pow-le-pow-right, not-suc-le-zero, le-of-suc-le-suc, le-refl}
 use native.Mathlib.Omega.{arith}
-use lib.Dec.{leb, ltb, eqb, lit<}
+use lib.Dec.{leb, eqb, lit<}
 use lib.ListN.{length, getD}
-use borrow.Author.Tests.{leb-true, leb-false, lt-ltb, ltb-true, ltb-false, le-ltb, eq-eqb, ne-eqb, not-true}
-use Rattle.lists.specs.Choice.{pick, both}
+use borrow.Author.Tests.{leb-true, leb-false, ltb-true, ltb-false, le-ltb, eq-eqb, ne-eqb, not-true}
 use Rattle.lists.specs.Lists.{allOf, indexOf, same}
 use Rattle.lists.specs.Base.{worthAfter, worth, places}
-use Rattle.lists.proofs.Choice.{by, clash, both-left, both-right, both-true, pick-true, pick-false}
+use Rattle.lists.proofs.Choice.{by, clash, both-left, both-right, pick-true, pick-false}
 use Rattle.lists.proofs.Lists.{index-found, index-within, all-at, same-refl, same-is}
 use Rattle.lists.proofs.Base.{places-worth, worth-lt}
 use Rattle.figures.specs.Reads.{Reads}

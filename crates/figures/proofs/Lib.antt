@@ -2,3 +2,4 @@ pub mod Reading
 pub mod FigureLaws
 pub mod LetterLaws
 pub mod Keywords
+pub mod Determined
