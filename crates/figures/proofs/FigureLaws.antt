@@ -2,7 +2,7 @@
 -- Assumes nothing.
 use mathlib.Core.Bool.{Bool, true, false}
 use mathlib.Core.List.{List, [], _∷_, map}
-use mathlib.Core.Path.{_≡_, refl, ap, sym, _∙_}
+use mathlib.Core.Path.{_≡_, refl, sym, _∙_}
 use Prim.Native.Nat.{ℕ, _+_, _-_, _^_, _≤_, _<_}
 use native.Mathlib.Nat.{pow-le-pow-right, le-trans}
 use native.Mathlib.Omega.{arith}
@@ -12,7 +12,7 @@ use borrow.Author.Tests.{leb-true, le-leb, lt-ltb, le-ltb, ltb-true}
 use Rattle.lists.specs.Choice.{pick, both}
 use Rattle.lists.specs.Lists.{allOf}
 use Rattle.lists.specs.Base.{worth, places}
-use Rattle.lists.proofs.Choice.{by, both-left, both-right, both-true, pick-true}
+use Rattle.lists.proofs.Choice.{both-left, both-right, both-true, pick-true}
 use Rattle.lists.proofs.Lists.{all-map, all-weaken}
 use Rattle.lists.proofs.Base.{worth-places, places-worth, worth-lt, length-places, places-small}
 use Rattle.words.specs.Bytes.{digit}

@@ -3,8 +3,8 @@
 use mathlib.Core.Bool.{Bool, true, false}
 use mathlib.Core.List.{List, [], _∷_}
 use mathlib.Core.Logic.{_⊎_, inl, inr}
-use mathlib.Core.Path.{_≡_, refl, sym, _∙_}
-use Prim.Native.Nat.{ℕ, zero, suc, _+_, _^_, _≤_, _<_}
+use mathlib.Core.Path.{_≡_, refl, sym}
+use Prim.Native.Nat.{ℕ, zero, suc, _^_, _≤_, _<_}
 use native.Mathlib.Omega.{arith}
 use lib.Dec.{leb, ltb, eqb, lit<}
 use lib.ListN.{length}
@@ -12,7 +12,7 @@ use borrow.Author.Tests.{leb-true, le-leb, eq-eqb, eqb-true, lt-ltb, ltb-true}
 use Rattle.lists.specs.Choice.{both}
 use Rattle.lists.specs.Lists.{allOf}
 use Rattle.lists.specs.Base.{worth, places}
-use Rattle.lists.proofs.Choice.{by, both-left, both-right, both-true, both-false-right, pick-true, pick-false}
+use Rattle.lists.proofs.Choice.{by, both-left, both-right, both-false-right, pick-true, pick-false}
 use Rattle.lists.proofs.Lists.{all-append, all-weaken}
 use Rattle.lists.proofs.Base.{worth-places, places-worth, worth-lt, length-places}
 use Rattle.words.specs.Bytes.{letter}
@@ -64,6 +64,7 @@ letters-back k w = by test yes (λ e. inl (pick-false (worth 256 w) 0 e))
   where
     test : Bool
     test = both (leb k 4) (both (eqb (length w) k) (allOf letter w))
+
     yes : test ≡ true → (lettersOf k w ≡ 0) ⊎ ((goodLetters k (lettersOf k w) ≡ true) × (inLetters k (lettersOf k w) ≡ w))
     yes e =
         let is : lettersOf k w ≡ worth 256 w = pick-true (worth 256 w) 0 e in

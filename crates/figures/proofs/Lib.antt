@@ -1,3 +1,5 @@
 pub mod Reading
 pub mod FigureLaws
 pub mod LetterLaws
+pub mod Keywords
+pub mod Determined

@@ -2,9 +2,9 @@
 -- says of the whole word. The places `ds` are the word's bytes, or what the bytes stand for.
 -- Assumes nothing.
 use mathlib.Core.Bool.{Bool, true, false}
-use mathlib.Core.List.{List, [], _∷_}
+use mathlib.Core.List.{List}
 use mathlib.Core.Path.{_≡_, refl, sym, _∙_}
-use Prim.Native.Nat.{ℕ, zero, suc, _+_, _*_, _^_, _≤_, _<_, zero-le}
+use Prim.Native.Nat.{ℕ, suc, _+_, _*_, _^_, _≤_, _<_, zero-le}
 use native.Mathlib.Nat.{pow-zero, pow-suc, mul-assoc, mul-le-mul-left, pow-le-pow-right, le-trans}
 use native.Mathlib.Numerals.{add-one}
 use native.Mathlib.Omega.{arith}
@@ -16,7 +16,7 @@ use borrow.Author.Tests.{le-leb, lt-leb}
 use Rattle.lists.specs.Choice.{pick, both}
 use Rattle.lists.specs.Lists.{allOf}
 use Rattle.lists.specs.Base.{worthAfter}
-use Rattle.lists.proofs.Choice.{both-false-left, both-false-right}
+use Rattle.lists.proofs.Choice.{both-false-right}
 use Rattle.lists.proofs.Lists.{all-past, all-stop, all-end}
 
 pub worth-past : (b n : ℕ) (ds : List ℕ) (i : ℕ) → i < length ds → worthAfter b n (drop i ds) ≡ worthAfter b (n * b + getD ds i 0) (drop (i + 1) ds)

@@ -2,7 +2,7 @@
 use mathlib.Core.Bool.{true}
 use mathlib.Core.List.{map}
 use mathlib.Core.Path.{_≡_, sym, _∙_}
-use Prim.Native.Nat.{_-_, _<_}
+use Prim.Native.Nat.{_-_, _≤_, _<_}
 use native.Mathlib.Omega.{arith}
 use lib.ListN.{length, getD, length-map, List·getD-map}
 use borrow.Author.Needs.{needs}
@@ -26,6 +26,9 @@ abbrev μ-loop : tie.MeasureT-loop
 -- the byte that is read is a figure
 read-digit : (c : lts.Else2 (is-digit-reads.Asked, is-digit-reads.Learnt) reads.Pre reads.Post Inv-loop μ-loop) → digit (getD (c .before .before .before .before .before .before .before .args .w .now) (c .before .before .before .before .loop .i) 0) ≡ true
 read-digit c = sym (c .before .is-digit .ensures) ∙ not-false _ (c .if2 .left)
+
+read-low : (c : lts.Else2 (is-digit-reads.Asked, is-digit-reads.Learnt) reads.Pre reads.Post Inv-loop μ-loop) → 48 ≤ getD (c .before .before .before .before .before .before .before .args .w .now) (c .before .before .before .before .loop .i) 0
+read-low c = digit-low _ (read-digit c)
 
 read-small : (c : lts.Else2 (is-digit-reads.Asked, is-digit-reads.Learnt) reads.Pre reads.Post Inv-loop μ-loop) → figure (getD (c .before .before .before .before .before .before .before .args .w .now) (c .before .before .before .before .loop .i) 0) < 10
 read-small c = figure-small _ (read-digit c)
@@ -51,7 +54,7 @@ mul-n : tie.Need-mul-n Inv-loop μ-loop
 mul-n c = omega (arith, fits 10 0 5 digit _ _ (c .before .before .before .before .loop .inv) {d = 0} (omega arith) (omega arith))
 
 sub-n : tie.Need-sub-n Inv-loop μ-loop
-sub-n c = digit-low _ (read-digit c)
+sub-n c = omega (arith, read-low c)
 
 cast-n : tie.Need-cast-n Inv-loop μ-loop
 cast-n c = omega (arith, read-small c)

@@ -1,0 +1,53 @@
+-- Each public contract of this crate determines its reply: two replies that it allows on the same arguments are equal.
+-- Assumes nothing.
+use mathlib.Core.List.{List}
+use mathlib.Core.Path.{_≡_}
+use Prim.Native.Nat.{ℕ}
+use contract.Lifetimes.{Lfts}
+use denote.Triple.Clauses.{AtExit}
+use borrow.Fn.Kinds.{PK, RK, Out, Dens, resT, endedOf}
+use Rattle.lists.proofs.Choice.{determined}
+use Rattle.figures.proofs.is_letter.Kinds as is-letter-kinds
+use Rattle.figures.proofs.is_letter.Reads as is-letter-reads
+use Rattle.figures.proofs.is_digit.Kinds as is-digit-kinds
+use Rattle.figures.proofs.is_digit.Reads as is-digit-reads
+use Rattle.figures.proofs.letters.Kinds as letters-kinds
+use Rattle.figures.proofs.letters.Reads as letters-reads
+use Rattle.figures.proofs.figures.Kinds as figures-kinds
+use Rattle.figures.proofs.figures.Reads as figures-reads
+use Rattle.figures.proofs.two.Kinds as two-kinds
+use Rattle.figures.proofs.two.Reads as two-reads
+use Rattle.figures.proofs.three.Kinds as three-kinds
+use Rattle.figures.proofs.three.Reads as three-reads
+use Rattle.figures.proofs.code.Kinds as code-kinds
+use Rattle.figures.proofs.code.Reads as code-reads
+use Rattle.figures.proofs.find.Kinds as find-kinds
+use Rattle.figures.proofs.find.Reads as find-reads
+
+-- `Learnt` is what a caller learns of arguments, reply and parameters at exit: the function's `ensures`
+abbrev pub Determines : (n : ℕ) (ps : List (PK n)) (k : RK n) → Out n ps k → Type 0
+Determines n ps k Q = (κs : Lfts n) (a : Dens κs ps) (r s : resT k κs .Denot) (x y : AtExit (endedOf n ps k) κs) → Q κs a r x → Q κs a s y → r ≡ s
+
+pub is-letter-determined : Determines 0 is-letter-kinds.ps is-letter-kinds.r is-letter-reads.Learnt
+is-letter-determined κs a r s x y p q = determined p q
+
+pub is-digit-determined : Determines 0 is-digit-kinds.ps is-digit-kinds.r is-digit-reads.Learnt
+is-digit-determined κs a r s x y p q = determined p q
+
+pub letters-determined : Determines 1 letters-kinds.ps letters-kinds.r letters-reads.Learnt
+letters-determined κs a r s x y p q = determined p q
+
+pub figures-determined : Determines 1 figures-kinds.ps figures-kinds.r figures-reads.Learnt
+figures-determined κs a r s x y p q = determined p q
+
+pub two-determined : Determines 1 two-kinds.ps two-kinds.r two-reads.Learnt
+two-determined κs a r s x y p q = determined p q
+
+pub three-determined : Determines 1 three-kinds.ps three-kinds.r three-reads.Learnt
+three-determined κs a r s x y p q = determined p q
+
+pub code-determined : Determines 1 code-kinds.ps code-kinds.r code-reads.Learnt
+code-determined κs a r s x y p q = determined p q
+
+pub find-determined : Determines 1 find-kinds.ps find-kinds.r find-reads.Learnt
+find-determined κs a r s x y p q = determined p q
