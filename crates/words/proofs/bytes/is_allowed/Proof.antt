@@ -1,4 +1,5 @@
 use borrow.Author.Needs.{needs}
+use Rattle.words.specs.Bytes.{allowed}
 use Rattle.words.proofs.bytes.is_allowed.Statement.{statement}
 use Rattle.words.proofs.bytes.is_allowed.Tie as tie
 use Rattle.words.proofs.bytes.is_allowed.Reads as reads
@@ -57,7 +58,8 @@ either-requires-9 c κs = search needs
 
 -- src/bytes.rt:14:1
 returns : tie.Need-returns
-returns c = cc
+unfolding allowed
+returns c = rw (c .either9 .ensures, c .before .either8 .ensures, c .before .before .either7 .ensures, c .before .before .before .either6 .ensures, c .before .before .before .before .either5 .ensures, c .before .before .before .before .before .is-blank .ensures, c .before .before .before .before .before .before .either4 .ensures, c .before .before .before .before .before .before .before .either3 .ensures, c .before .before .before .before .before .before .before .before .either2 .ensures, c .before .before .before .before .before .before .before .before .before .either .ensures, c .before .before .before .before .before .before .before .before .before .before .both2 .ensures, c .before .before .before .before .before .before .before .before .before .before .before .both .ensures)
 
 pub is-allowed-spec : {M : Type 1} → statement M
 is-allowed-spec =

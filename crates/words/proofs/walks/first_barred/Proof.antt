@@ -1,17 +1,15 @@
 -- `walks::first_barred` meets its contract: the loop keeps what is still to be found. Assumes nothing.
 use Prim.Native.Nat.{_-_}
-use mathlib.Core.Path.{_≡_, sym, _∙_}
+use mathlib.Core.Path.{_≡_, sym}
 use native.Mathlib.Omega.{arith}
 use borrow.Author.Needs.{needs}
 use lib.ListN.{length}
 use Rattle.lists.specs.Lists.{indexOf, indexFrom}
-use Rattle.lists.proofs.Lists.{from-zero, from-here, from-past, from-none}
+use Rattle.lists.proofs.Lists.{from-zero}
 use Rattle.words.specs.Bytes.{barred}
+use Rattle.words.proofs.Walk.{walk-found, walk-past, walk-none}
 use Rattle.words.proofs.walks.first_barred.Statement.{statement}
 use Rattle.words.proofs.walks.first_barred.Tie as tie
-use Rattle.words.proofs.walks.first_barred.Reads as reads
-use Rattle.words.proofs.walks.first_barred.Lts as lts
-use Rattle.words.proofs.bytes.is_allowed.Reads as is-allowed-reads
 
 abbrev Inv-loop : tie.InvT-loop
 Inv-loop b i₀ i = indexOf barred b ≡ indexFrom barred i b
@@ -29,7 +27,7 @@ is-allowed-requires : tie.Need-is-allowed-requires Inv-loop μ-loop
 is-allowed-requires c κs = search needs
 
 returns : tie.Need-returns Inv-loop μ-loop
-returns c = sym (c .before .before .before .before .loop .inv ∙ from-here barred (c .before .before .before .before .before .before .args .b .now) (c .before .before .before .before .loop .i) 0 (search needs) ?e)
+returns c = walk-found barred (c .before .before .before .before .before .before .args .b .now) (c .before .before .before .before .loop .i) (c .before .before .before .before .loop .inv) (omega arith) (cc)
 
 add-i : tie.Need-add-i Inv-loop μ-loop
 add-i c = omega arith
@@ -38,10 +36,10 @@ loop-less : tie.Need-loop-less Inv-loop μ-loop
 loop-less c = omega arith
 
 loop-again : tie.Need-loop-again Inv-loop μ-loop
-loop-again c = c .before .before .before .before .loop .inv ∙ from-past barred (c .before .before .before .before .before .before .args .b .now) (c .before .before .before .before .loop .i) 0 (search needs) {! cc !}
+loop-again c = walk-past barred (c .before .before .before .before .before .before .args .b .now) (c .before .before .before .before .loop .i) (c .before .before .before .before .loop .inv) (omega arith) (cc)
 
 returns-2 : tie.Need-returns-2 Inv-loop μ-loop
-returns-2 c = sym (c .before .loop .inv ∙ from-none barred _ _ (c .loop-test .left))
+returns-2 c = walk-none barred (c .before .before .before .args .b .now) (c .before .loop .i) (c .before .loop .inv) (omega arith)
 
 pub first-barred-spec : {M : Type 1} → statement M
 first-barred-spec =

@@ -1,41 +1,42 @@
+-- `walks::first_equals` meets its contract: the loop keeps what is still to be found. Assumes nothing.
+use Prim.Native.Nat.{_-_}
+use mathlib.Core.Path.{_≡_, sym}
+use native.Mathlib.Omega.{arith}
+use borrow.Author.Tests.{eq-eqb, ne-eqb}
+use lib.ListN.{length}
+use Rattle.lists.specs.Lists.{indexOf, indexFrom}
+use Rattle.lists.proofs.Lists.{from-zero}
+use Rattle.words.specs.Bytes.{equals}
+use Rattle.words.proofs.Walk.{walk-found, walk-past, walk-none}
 use Rattle.words.proofs.walks.first_equals.Statement.{statement}
 use Rattle.words.proofs.walks.first_equals.Tie as tie
-use Rattle.words.proofs.walks.first_equals.Reads as reads
-use Rattle.words.proofs.walks.first_equals.Lts as lts
 
 abbrev Inv-loop : tie.InvT-loop
-Inv-loop b i₀ i = ?
+Inv-loop b i₀ i = indexOf equals b ≡ indexFrom equals i b
 
 abbrev μ-loop : tie.MeasureT-loop
-μ-loop b i₀ i = ?
+μ-loop b i₀ i = length b - i
 
--- src/walks.rt:26:5
 loop-holds : tie.Need-loop-holds Inv-loop μ-loop
-loop-holds c = ?
+loop-holds c = sym (from-zero equals _)
 
--- src/walks.rt:27:12
 shared-slice-read-if1 : tie.Need-shared-slice-read-if1 Inv-loop μ-loop
-shared-slice-read-if1 c = ?
+shared-slice-read-if1 c = omega arith
 
--- src/walks.rt:28:13
 returns : tie.Need-returns Inv-loop μ-loop
-returns c = ?
+returns c = walk-found equals (c .before .before .before .before .args .b .now) (c .before .before .before .loop .i) (c .before .before .before .loop .inv) (omega arith) (eq-eqb _ _ (c .if1 .taken))
 
--- src/walks.rt:30:9
 add-i : tie.Need-add-i Inv-loop μ-loop
-add-i c = ?
+add-i c = omega arith
 
--- src/walks.rt:26:5
 loop-less : tie.Need-loop-less Inv-loop μ-loop
-loop-less c = ?
+loop-less c = omega arith
 
--- src/walks.rt:26:5
 loop-again : tie.Need-loop-again Inv-loop μ-loop
-loop-again c = ?
+loop-again c = walk-past equals (c .before .before .before .before .args .b .now) (c .before .before .before .loop .i) (c .before .before .before .loop .inv) (omega arith) (ne-eqb _ _ (c .if1 .left))
 
--- src/walks.rt:22:1
 returns-2 : tie.Need-returns-2 Inv-loop μ-loop
-returns-2 c = ?
+returns-2 c = walk-none equals (c .before .before .args .b .now) (c .before .loop .i) (c .before .loop .inv) (omega arith)
 
 pub first-equals-spec : {M : Type 1} → statement M
 first-equals-spec =

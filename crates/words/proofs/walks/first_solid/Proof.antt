@@ -1,46 +1,44 @@
+-- `walks::first_solid` meets its contract: the loop keeps what is still to be found. Assumes nothing.
+use Prim.Native.Nat.{_-_}
+use mathlib.Core.Path.{_≡_, refl}
+use native.Mathlib.Omega.{arith}
+use borrow.Author.Needs.{needs}
+use lib.ListN.{length}
+use Rattle.lists.specs.Lists.{indexFrom}
+use Rattle.words.specs.Bytes.{solid}
+use Rattle.words.proofs.Walk.{walk-found, walk-past, walk-none}
 use Rattle.words.proofs.walks.first_solid.Statement.{statement}
 use Rattle.words.proofs.walks.first_solid.Tie as tie
-use Rattle.words.proofs.walks.first_solid.Reads as reads
-use Rattle.words.proofs.walks.first_solid.Lts as lts
-use Rattle.words.proofs.bytes.is_blank.Reads as is-blank-reads
 
 abbrev Inv-loop : tie.InvT-loop
-Inv-loop b start i₀ i = ?
+Inv-loop b start i₀ i = indexFrom solid start b ≡ indexFrom solid i b
 
 abbrev μ-loop : tie.MeasureT-loop
-μ-loop b start i₀ i = ?
+μ-loop b start i₀ i = length b - i
 
--- src/walks.rt:39:5
 loop-holds : tie.Need-loop-holds Inv-loop μ-loop
-loop-holds c = ?
+loop-holds c = refl
 
--- src/walks.rt:40:22
 shared-slice-read-is-blank : tie.Need-shared-slice-read-is-blank Inv-loop μ-loop
-shared-slice-read-is-blank c = ?
+shared-slice-read-is-blank c = omega arith
 
--- src/walks.rt:40:13
 is-blank-requires : tie.Need-is-blank-requires Inv-loop μ-loop
-is-blank-requires c κs = ?
+is-blank-requires c κs = search needs
 
--- src/walks.rt:41:13
 returns : tie.Need-returns Inv-loop μ-loop
-returns c = ?
+returns c = walk-found solid (c .before .before .before .before .before .before .args .b .now) (c .before .before .before .before .loop .i) (c .before .before .before .before .loop .inv) (omega arith) (cc)
 
--- src/walks.rt:43:9
 add-i : tie.Need-add-i Inv-loop μ-loop
-add-i c = ?
+add-i c = omega arith
 
--- src/walks.rt:39:5
 loop-less : tie.Need-loop-less Inv-loop μ-loop
-loop-less c = ?
+loop-less c = omega arith
 
--- src/walks.rt:39:5
 loop-again : tie.Need-loop-again Inv-loop μ-loop
-loop-again c = ?
+loop-again c = walk-past solid (c .before .before .before .before .before .before .args .b .now) (c .before .before .before .before .loop .i) (c .before .before .before .before .loop .inv) (omega arith) (cc)
 
--- src/walks.rt:35:1
 returns-2 : tie.Need-returns-2 Inv-loop μ-loop
-returns-2 c = ?
+returns-2 c = walk-none solid (c .before .before .before .args .b .now) (c .before .loop .i) (c .before .loop .inv) (omega arith)
 
 pub first-solid-spec : {M : Type 1} → statement M
 first-solid-spec =
