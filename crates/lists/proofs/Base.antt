@@ -38,7 +38,7 @@ places-after b k n [] t = rw (zero-add, append-nil)
 places-after b k n (d ∷ ds) t =
     let small : d < b = ltb-true d b (both-left (ltb d b) (allOf (λ (e : ℕ). ltb e b) ds) t) in
     let rest : places b (length ds + suc k) (worthAfter b (n * b + d) ds) ≡ places b (suc k) (n * b + d) ++ ds =
-            places-after b (suc k) (n * b + d) ds (both-right (ltb d b) (allOf (λ (e : ℕ). ltb e b) ds) t) in
+    places-after b (suc k) (n * b + d) ds (both-right (ltb d b) (allOf (λ (e : ℕ). ltb e b) ds) t) in
     rw (suc-add (length ds) k ∙ sym (add-suc (length ds) k), rest, digits-div n small, digits-mod n small, append-snoc)
 
 -- the places of what some places are worth are those places

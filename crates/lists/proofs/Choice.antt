@@ -60,7 +60,6 @@ pick-true x y p = cc
 pub pick-false : {A : Type 0} {b : Bool} (x y : A) → b ≡ false → pick b x y ≡ y
 pick-false x y p = cc
 
-
 -- two outcomes that a contract `r ≡ value` allows are equal: what determines every contract of that form
 pub determined : {A : Type 0} {r s value : A} → r ≡ value → s ≡ value → r ≡ s
 determined p q = p ∙ sym q

@@ -1,7 +1,7 @@
 -- The laws of searching and testing a list, in the shapes that loops ask for.
 -- Assumes nothing.
-use mathlib.Core.Bool.{Bool, true, false}
-use mathlib.Core.List.{List, [], _∷_, _++_}
+use mathlib.Core.Bool.{Bool, true, false, not, Bool·not-not}
+use mathlib.Core.List.{List, [], _∷_, _++_, map, append-nil}
 use mathlib.Core.Path.{_≡_, refl, ap, sym, _∙_}
 use Prim.Native.Nat.{ℕ, zero, suc, _+_, _-_, _≤_, _<_, zero-le, suc-le-suc}
 use native.Mathlib.Nat.{zero-add, suc-add, add-suc, add-zero, not-suc-le-zero, le-of-suc-le-suc}
@@ -65,6 +65,26 @@ index-before f [] d k h = absurd (not-suc-le-zero h)
 index-before f (x ∷ xs) d zero h = by (f x) (λ e. absurd (not-suc-le-zero (rw e at h))) (λ e. e)
 index-before f (x ∷ xs) d (suc k) h = by (f x) (λ e. absurd (not-suc-le-zero (rw e at h))) (λ e. index-before f xs d k (le-of-suc-le-suc (rw e at h)))
 
+-- nothing before what is found passes, all of it at once; and a list of which nothing passes is passed over as a whole
+pub index-clear : {A : Type 0} (f : A → Bool) (xs : List A) → allOf (λ (x : A). not (f x)) (take (indexOf f xs) xs) ≡ true
+unfolding indexOf allOf
+index-clear f [] = refl
+index-clear f (x ∷ xs) = by (f x) (λ e. rw e) (λ e. rw (e, e) (index-clear f xs))
+
+pub index-past : {A : Type 0} (f : A → Bool) (xs ys : List A) → allOf (λ (x : A). not (f x)) xs ≡ true → indexOf f (xs ++ ys) ≡ length xs + indexOf f ys
+unfolding indexOf allOf
+index-past f [] ys t = rw zero-add
+index-past f (x ∷ xs) ys t = by (f x)
+    (λ e. clash false (rw e at t) refl)
+    (λ e. rw (e, index-past f xs ys (rw e at t), suc-add))
+
+pub index-none : {A : Type 0} (f : A → Bool) (xs : List A) → allOf (λ (x : A). not (f x)) xs ≡ true → indexOf f xs ≡ length xs
+unfolding indexOf
+index-none f xs t = rw (append-nil, add-zero) at (index-past f xs [] t)
+
+pub index-all : {A : Type 0} (f : A → Bool) (xs : List A) → length xs ≤ indexOf f xs → allOf (λ (x : A). not (f x)) xs ≡ true
+index-all f xs h = rw (take-all (indexOf f xs) xs h) at (index-clear f xs)
+
 -- Testing all. A loop that has passed place i keeps `allOf f xs ≡ allOf f (drop i xs)`.
 
 pub all-past : {A : Type 0} (f : A → Bool) (xs : List A) (i : ℕ) (d : A) → i < length xs → f (getD xs i d) ≡ true → allOf f (drop i xs) ≡ allOf f (drop (i + 1) xs)
@@ -111,6 +131,16 @@ unfolding allOf
 all-drop f zero xs t = t
 all-drop f (suc n) [] t = refl
 all-drop f (suc n) (x ∷ xs) t = all-drop f n xs (both-right (f x) (allOf f xs) t)
+
+pub all-map : {A B : Type 0} (f : B → Bool) (g : A → B) (xs : List A) → allOf f (map g xs) ≡ allOf (λ (x : A). f (g x)) xs
+unfolding allOf
+all-map f g [] = refl
+all-map f g (x ∷ xs) = rw (all-map f g xs)
+
+pub all-not-not : {A : Type 0} (f : A → Bool) (xs : List A) → allOf (λ (x : A). not (not (f x))) xs ≡ allOf f xs
+unfolding allOf
+all-not-not f [] = refl
+all-not-not f (x ∷ xs) = rw (Bool·not-not (f x), all-not-not f xs)
 
 -- Sameness is equality.
 

@@ -1,2 +1,4 @@
 pub mod Walk
 pub mod Refusals
+pub mod Words
+pub mod Determined

@@ -1,13 +1,21 @@
 -- The refusal table, numbers 1 to 3, one law to a line: what `checkOf` is where the facts of that line hold.
 -- Assumes nothing.
-use mathlib.Core.List.{List}
-use mathlib.Core.Path.{_≡_}
-use Prim.Native.Nat.{ℕ, _+_, _≤_, _<_}
-use lib.ListN.{length}
-use borrow.Author.Tests.{lt-ltb, le-ltb, eq-eqb, ne-eqb}
-use Rattle.lists.specs.Lists.{indexOf, indexFrom}
-use Rattle.lists.proofs.Choice.{either-left, either-right}
-use Rattle.words.specs.Bytes.{solid, equals, barred}
+use mathlib.Core.Bool.{Bool, true, false, not}
+use mathlib.Core.List.{List, [], _∷_, _++_}
+use mathlib.Core.Path.{_≡_, refl, ap, sym, _∙_}
+use Prim.Native.Nat.{ℕ, suc, _+_, _≤_, _<_, zero-le}
+use native.Mathlib.Nat.{add-zero}
+use native.Mathlib.Numerals.{add-one}
+use native.Mathlib.Omega.{arith}
+use lib.Dec.{ltb, eqb, lit≤}
+use lib.ListN.{length, take, drop, getD, length-append, length-drop}
+use lib.Seq.{split-at, drop-append-add}
+use borrow.Author.Tests.{lt-ltb, le-ltb, eq-eqb, ne-eqb, ltb-true, ltb-false, eqb-true, eqb-false}
+use Rattle.lists.specs.Choice.{pick, either}
+use Rattle.lists.specs.Lists.{indexOf, indexFrom, allOf}
+use Rattle.lists.proofs.Choice.{by, either-left, either-right, both-true}
+use Rattle.lists.proofs.Lists.{index-within, index-found, index-clear, index-past, index-none, index-all, all-append, all-take, all-weaken, all-not-not}
+use Rattle.words.specs.Bytes.{allowed, letter, digit, stroke, bracket, blank, solid, equals, barred}
 use Rattle.words.specs.Check.{checkOf, barredAt, equalsAt, afterAt}
 use Rattle.words.specs.declared.Checked.{Checked}
 
@@ -39,3 +47,100 @@ module _ (b : List ℕ) (some : length b ≡ 0 → ⊥) (fits : length b ≤ 204
     unfolding checkOf
     not-refused l =
         rw (ne-eqb (length b) 0 some, le-ltb 2048 (length b) fits, ← e, le-ltb r (length b) h, ← f, ne-eqb s (length b) k, ← g, le-ltb t (length b) l)
+
+-- What `checkOf` tells.
+
+-- a claim about `checkOf b` is one for each line of the table
+pub check-cases : (A : Checked → Type 0) (b : List ℕ) → A (record { number = 1; place = 0 })
+    → (barredAt b < length b → A (record { number = 2; place = barredAt b }))
+    → A (record { number = 3; place = length b })
+    → (afterAt b < length b → A (record { number = 3; place = afterAt b }))
+    → ((length b ≡ 0 → ⊥) → length b ≤ 2048 → length b ≤ barredAt b → (equalsAt b ≡ length b → ⊥) → length b ≤ afterAt b → A (record { number = 0; place = equalsAt b }))
+    → A (checkOf b)
+unfolding checkOf
+check-cases A b one two none after good =
+    by (eqb (length b) 0) (λ e. rw e one)
+    (λ some. by (ltb 2048 (length b)) (λ e. rw (some, e) one)
+    (λ fits. by (ltb (barredAt b) (length b)) (λ e. rw (some, fits, e) (two (ltb-true (barredAt b) (length b) e)))
+    (λ clean. by (eqb (equalsAt b) (length b)) (λ e. rw (some, fits, clean, e) none)
+    (λ found. by (ltb (afterAt b) (length b)) (λ e. rw (some, fits, clean, found, e) (after (ltb-true (afterAt b) (length b) e)))
+    (λ over. rw (some, fits, clean, found, over)
+    (good (eqb-false (length b) 0 some) (ltb-false 2048 (length b) fits) (ltb-false (barredAt b) (length b) clean) (eqb-false (equalsAt b) (length b) found) (ltb-false (afterAt b) (length b) over)))))))
+
+pub record Small (b : List ℕ) (r : Checked) : Type 0 where
+  pub number : r .number ≤ 3
+  pub place : r .place ≤ length b
+
+pub check-small : (b : List ℕ) → Small b (checkOf b)
+check-small b = check-cases (Small b) b
+    (record { number = lit≤ tt; place = zero-le })
+    (λ h. record { number = lit≤ tt; place = omega arith })
+    (record { number = lit≤ tt; place = omega arith })
+    (λ h. record { number = lit≤ tt; place = omega arith })
+    (λ some fits clean found over. record { number = zero-le; place = index-within equals b })
+
+-- what is known of bytes from which words can be read: `=` stands first at place e
+pub record Readable (b : List ℕ) (e : ℕ) : Type 0 where
+  pub at : e ≡ equalsAt b
+  pub within : e < length b
+  pub fits : length b ≤ 2048
+  pub split : b ≡ take e b ++ (61 ∷ drop (suc e) b)
+  pub allowed-all : allOf allowed b ≡ true
+  pub allowed-text : allOf allowed (take e b) ≡ true
+  pub no-equals : allOf (λ (x : ℕ). not (equals x)) (take e b) ≡ true
+  pub blank-after : allOf blank (drop (suc e) b) ≡ true
+
+readable : (b : List ℕ) → length b ≤ 2048 → length b ≤ barredAt b → (equalsAt b ≡ length b → ⊥) → length b ≤ afterAt b → Readable b (equalsAt b)
+readable b fits clean found over =
+    let e : ℕ = equalsAt b in
+    let within : e < length b = omega (arith, index-within equals b) in
+    let byte : getD b e 0 ≡ 61 = eqb-true (getD b e 0) 61 (index-found equals b 0 within) in
+    let all : allOf allowed b ≡ true = rw (all-not-not allowed b) at (index-all barred b clean) in
+    record {
+      at = refl;
+      within = within;
+      fits = fits;
+      split = rw byte at (split-at b e 0 within);
+      allowed-all = all;
+      allowed-text = all-take allowed e b all;
+      no-equals = index-clear equals b;
+      blank-after = rw (all-not-not blank (drop (suc e) b)) at (index-all solid (drop (suc e) b) (rw (← (add-one e)) (omega (arith, length-drop (e + 1) b))));
+    }
+
+pub check-readable : (b : List ℕ) → checkOf b .number ≡ 0 → Readable b (checkOf b .place)
+check-readable b = check-cases (λ (r : Checked). r .number ≡ 0 → Readable b (r .place)) b
+    (λ e. absurd (omega arith))
+    (λ h e. absurd (omega arith))
+    (λ e. absurd (omega arith))
+    (λ h e. absurd (omega arith))
+    (λ some fits clean found over e. readable b fits clean found over)
+
+-- And back: a text of allowed bytes without `=`, that `=`, and blanks, all of it short enough.
+
+blank-allowed : (x : ℕ) → blank x ≡ true → allowed x ≡ true
+unfolding allowed
+blank-allowed x e = either-right (letter x) (either-right (digit x) (either-left (either (stroke x) (either (bracket x) (equals x))) e))
+
+module _ (t s : List ℕ) (good : allOf allowed t ≡ true) (free : allOf (λ (x : ℕ). not (equals x)) t ≡ true) (after : allOf blank s ≡ true) where
+  text-allowed : allOf allowed (t ++ (61 ∷ s)) ≡ true
+  unfolding allOf allowed
+  text-allowed = rw (all-append allowed t (61 ∷ s), good) (all-weaken blank allowed blank-allowed s after)
+
+  text-equals : length t ≡ equalsAt (t ++ (61 ∷ s))
+  unfolding indexOf
+  text-equals = sym (rw add-zero at (index-past equals t (61 ∷ s) free))
+
+  text-after : length (t ++ (61 ∷ s)) ≡ indexFrom solid (length t + 1) (t ++ (61 ∷ s))
+  text-after = rw (drop-append-add t (61 ∷ s) 1, index-none solid s (all-not-not blank s ∙ after), length-append) (omega arith)
+
+  pub check-text : length t + length s < 2048 → checkOf (t ++ (61 ∷ s)) ≡ record { number = 0; place = length t }
+  check-text h =
+      let b : List ℕ = t ++ (61 ∷ s) in
+      let long : length b ≡ length t + suc (length s) = length-append t (61 ∷ s) in
+      sym (not-refused b (omega arith) (omega arith) (sym (index-none barred b (all-not-not allowed b ∙ text-allowed))) (omega arith) text-equals (omega arith) text-after (omega arith))
+
+-- a text and its `=`, nothing after it
+pub check-bare : (t : List ℕ) → allOf allowed t ≡ true → allOf (λ (x : ℕ). not (equals x)) t ≡ true → length t < 2048
+    → checkOf (t ++ (61 ∷ [])) ≡ record { number = 0; place = length t }
+unfolding allOf
+check-bare t good free h = check-text t [] good free refl (rw add-zero h)

@@ -1,11 +1,13 @@
 -- 01, "From bytes to words": "Words are the longest runs without space, CR or LF before the first `=`; that `=` is the last word."
 -- A text here is what stands before the first `=`. The `=` itself is the last word, with no byte of its own, at the text's length.
 -- Assumes nothing.
+use mathlib.Core.Bool.{Bool}
 use mathlib.Core.List.{List, [], _∷_, _++_, map}
 use Prim.Native.Nat.{ℕ, suc, _+_, _-_}
+use lib.Dec.{ltb}
 use lib.ListN.{length, drop}
-use Rattle.lists.specs.Choice.{pick}
-use Rattle.lists.specs.Lists.{indexFrom, part}
+use Rattle.lists.specs.Choice.{pick, both}
+use Rattle.lists.specs.Lists.{indexFrom, part, allOf}
 use Rattle.words.specs.Bytes.{blank, solid}
 use Rattle.words.specs.declared.Span.{Span}
 
@@ -35,3 +37,20 @@ wordsIn t = map (λ (w : Word). w .bytes) (wordsAt t 0)
 -- where the next word from a place on begins and ends
 unfoldable pub spanOf : List ℕ → ℕ → Span
 spanOf t p = record { start = indexFrom solid p t; end = indexFrom blank (indexFrom solid p t) t }
+
+-- a run: it is not empty, and every byte of it passes the test
+abbrev pub runOf : (ℕ → Bool) → List ℕ → Bool
+runOf f w = both (ltb 0 (length w)) (allOf f w)
+
+-- a run without blanks is a word, and a run of blanks stands between words
+abbrev pub solidWord : List ℕ → Bool
+solidWord w = runOf solid w
+
+abbrev pub gap : List ℕ → Bool
+gap s = runOf blank s
+
+-- words joined by single spaces
+unfoldable pub line : List (List ℕ) → List ℕ
+line [] = []
+line (w ∷ []) = w
+line (w ∷ v ∷ ws) = w ++ (32 ∷ line (v ∷ ws))

@@ -1,7 +1,6 @@
 // Tests of one byte.
 ghost use mathlib.Core.Path.{_≡_};
 ghost use Rattle.words.specs.Bytes.{blank, allowed};
-
 use lists::both;
 use lists::either;
 
@@ -18,5 +17,11 @@ pub fn is_allowed(x: u8) -> bool
     let digit = both(48 <= x, x <= 57);
     let stroke = either(x == 47, either(x == 45, either(x == 46, x == 44)));
     let bracket = either(x == 40, x == 41);
-    either(letter, either(digit, either(is_blank(x), either(stroke, either(bracket, x == 61)))))
+    either(
+        letter,
+        either(
+            digit,
+            either(is_blank(x), either(stroke, either(bracket, x == 61))),
+        ),
+    )
 }

@@ -25,10 +25,16 @@ pub fn check(bulletin: &[u8]) -> Checked
 {
     let length = bulletin.len();
     if length == 0 {
-        return Checked { number: 1, place: 0 };
+        return Checked {
+            number: 1,
+            place: 0,
+        };
     }
     if 2048 < length {
-        return Checked { number: 1, place: 0 };
+        return Checked {
+            number: 1,
+            place: 0,
+        };
     }
     let barred = walks::first_barred(bulletin);
     if barred < length {

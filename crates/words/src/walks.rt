@@ -2,7 +2,6 @@
 ghost use mathlib.Core.Path.{_≡_};
 ghost use Rattle.lists.specs.Lists.{indexOf, indexFrom};
 ghost use Rattle.words.specs.Bytes.{blank, solid, equals, barred};
-
 use crate::bytes::is_allowed;
 use crate::bytes::is_blank;
 
@@ -22,14 +21,14 @@ pub fn first_barred(b: &[u8]) -> usize
 pub fn first_equals(b: &[u8]) -> usize
     ensures { λ r. ⌜ r ≡ indexOf equals (now (b .entry)) ⌝ }
 {
-    let mut i = 0;
-    while i < b.len() {
-        if b[i] == 61 {
-            return i;
+    let mut at = 0;
+    while at < b.len() {
+        if b[at] == 61 {
+            return at;
         }
-        i += 1;
+        at += 1;
     }
-    i
+    at
 }
 
 pub fn first_solid(b: &[u8], start: usize) -> usize

@@ -6,49 +6,34 @@ use Rattle.words.specs.Bytes.{equals}
 use Rattle.words.proofs.Refusals.{refused-empty, refused-long, refused-barred, refused-no-equals, refused-after, not-refused}
 use Rattle.words.proofs.check.Statement.{statement}
 use Rattle.words.proofs.check.Tie as tie
-use Rattle.words.proofs.check.Reads as reads
-use Rattle.words.proofs.check.Lts as lts
-use Rattle.words.proofs.walks.first_barred.Reads as first-barred-reads
-use Rattle.words.proofs.walks.first_equals.Reads as first-equals-reads
-use Rattle.words.proofs.walks.first_solid.Reads as first-solid-reads
 
--- src/lib.rt:28:9
 returns : tie.Need-returns
 returns c = refused-empty (c .before .before .args .bulletin .now) (omega arith)
 
--- src/lib.rt:31:9
 returns-2 : tie.Need-returns-2
 returns-2 c = refused-long (c .before .before .before .args .bulletin .now) (omega arith) (omega arith)
 
--- src/lib.rt:33:9
 first-barred-requires : tie.Need-first-barred-requires
 first-barred-requires c κs = search needs
 
--- src/lib.rt:35:9
 returns-3 : tie.Need-returns-3
 returns-3 c = refused-barred (c .before .before .before .before .before .args .bulletin .now) (omega arith) (omega arith) (c .before .first-barred .ensures) (omega arith)
 
--- src/lib.rt:40:9
 first-equals-requires : tie.Need-first-equals-requires
 first-equals-requires c κs = search needs
 
--- src/lib.rt:42:9
 returns-4 : tie.Need-returns-4
 returns-4 c = refused-no-equals (c .before .before .before .before .before .before .before .args .bulletin .now) (omega arith) (omega arith) (c .before .before .before .first-barred .ensures) (omega arith) (c .before .first-equals .ensures) (omega arith)
 
--- src/lib.rt:47:46
 add-first-solid : tie.Need-add-first-solid
 add-first-solid c = omega (arith, index-within equals (c .before .before .before .before .before .before .before .args .bulletin .now))
 
--- src/lib.rt:47:9
 first-solid-requires : tie.Need-first-solid-requires
 first-solid-requires c κs = search needs
 
--- src/lib.rt:49:9
 returns-5 : tie.Need-returns-5
 returns-5 c = refused-after (c .before .before .before .before .before .before .before .before .before .args .bulletin .now) (omega arith) (omega arith) (c .before .before .before .before .before .first-barred .ensures) (omega arith) (c .before .before .before .first-equals .ensures) (omega arith) (c .before .first-solid .ensures) (omega arith)
 
--- src/lib.rt:23:1
 returns-6 : tie.Need-returns-6
 returns-6 c = not-refused (c .before .before .before .before .before .before .before .before .before .args .bulletin .now) (omega arith) (omega arith) (c .before .before .before .before .before .first-barred .ensures) (omega arith) (c .before .before .before .first-equals .ensures) (omega arith) (c .before .first-solid .ensures) (omega arith)
 

@@ -1,62 +1,45 @@
+-- `bytes::is_allowed` meets its contract: the calls are those of the definition, from the last to the first. Assumes nothing.
 use borrow.Author.Needs.{needs}
 use Rattle.words.specs.Bytes.{allowed}
 use Rattle.words.proofs.bytes.is_allowed.Statement.{statement}
 use Rattle.words.proofs.bytes.is_allowed.Tie as tie
-use Rattle.words.proofs.bytes.is_allowed.Reads as reads
-use Rattle.words.proofs.bytes.is_allowed.Lts as lts
-use Rattle.lists.proofs.both.Reads as both-reads
-use Rattle.lists.proofs.either.Reads as either-reads
-use Rattle.words.proofs.bytes.is_blank.Reads as is-blank-reads
 
--- src/bytes.rt:17:9
 both-requires : tie.Need-both-requires
 both-requires c κs = search needs
 
--- src/bytes.rt:18:9
 both-requires-2 : tie.Need-both-requires-2
 both-requires-2 c κs = search needs
 
--- src/bytes.rt:19:50
 either-requires : tie.Need-either-requires
 either-requires c κs = search needs
 
--- src/bytes.rt:19:34
 either-requires-2 : tie.Need-either-requires-2
 either-requires-2 c κs = search needs
 
--- src/bytes.rt:19:9
 either-requires-3 : tie.Need-either-requires-3
 either-requires-3 c κs = search needs
 
--- src/bytes.rt:20:9
 either-requires-4 : tie.Need-either-requires-4
 either-requires-4 c κs = search needs
 
--- src/bytes.rt:21:41
 is-blank-requires : tie.Need-is-blank-requires
 is-blank-requires c κs = search needs
 
--- src/bytes.rt:21:69
 either-requires-5 : tie.Need-either-requires-5
 either-requires-5 c κs = search needs
 
--- src/bytes.rt:21:54
 either-requires-6 : tie.Need-either-requires-6
 either-requires-6 c κs = search needs
 
--- src/bytes.rt:21:34
 either-requires-7 : tie.Need-either-requires-7
 either-requires-7 c κs = search needs
 
--- src/bytes.rt:21:20
 either-requires-8 : tie.Need-either-requires-8
 either-requires-8 c κs = search needs
 
--- src/bytes.rt:21:5
 either-requires-9 : tie.Need-either-requires-9
 either-requires-9 c κs = search needs
 
--- src/bytes.rt:14:1
 returns : tie.Need-returns
 unfolding allowed
 returns c = rw (c .either9 .ensures, c .before .either8 .ensures, c .before .before .either7 .ensures, c .before .before .before .either6 .ensures, c .before .before .before .before .either5 .ensures, c .before .before .before .before .before .is-blank .ensures, c .before .before .before .before .before .before .either4 .ensures, c .before .before .before .before .before .before .before .either3 .ensures, c .before .before .before .before .before .before .before .before .either2 .ensures, c .before .before .before .before .before .before .before .before .before .either .ensures, c .before .before .before .before .before .before .before .before .before .before .both2 .ensures, c .before .before .before .before .before .before .before .before .before .before .before .both .ensures)
