@@ -9,17 +9,17 @@ use Rattle.words.specs.Words.{line}
 use Rattle.coordinates.specs.Coordinates.{goodCoordinate, emptyCoordinate, spellCoordinate, signedOf}
 use Rattle.coordinates.specs.Points.{samePoint, goodPoint, emptyPoint}
 use Rattle.figures.specs.Letters.{goodLetters}
-use Rattle.shapes.specs.Groups.{goodGroup, goodPeriod, goodTime, spellGroup, spellPeriod, spellTime}
-use Rattle.shapes.specs.Headings.{goodDesignator, goodCorrection, spellDesignator}
-use Rattle.shapes.specs.Levels.{goodLevelWord, spellLevelWord}
-use Rattle.shapes.specs.Names.{nameWord, pieces, nameText}
-use Rattle.shapes.specs.Sequences.{goodSequence, spellSequence}
-use Rattle.shapes.specs.Speeds.{unitWords, goodSpeed, spellSpeed}
-use Rattle.shapes.specs.Tables.{compassWords, intensityWords, closingWords, typeWords}
+use Rattle.groups.specs.Groups.{goodGroup, goodPeriod, goodTime, spellGroup, spellPeriod, spellTime}
+use Rattle.headings.specs.Headings.{typeWords, goodDesignator, goodCorrection, spellDesignator}
+use Rattle.levels.specs.Levels.{goodLevelWord, spellLevelWord, goodLevel, emptyLevel, levelWords}
+use Rattle.names.specs.Names.{closingWords, nameWord, pieces, nameText}
+use Rattle.headings.specs.Sequences.{goodSequence, spellSequence}
+use Rattle.motions.specs.Speeds.{unitWords, goodSpeed, spellSpeed}
+use Rattle.motions.specs.Motions.{compassWords, intensityWords}
 use Rattle.message.specs.Names.{goodName, emptyName}
 use Rattle.message.specs.Places.{goodSide, emptySide, goodBound, noPoints, goodOutline, goodPlace, emptyPlace, boundWords, dashed, joined, placeWords}
 use Rattle.message.specs.Records.{goodHeading, goodLine, goodArea, namesItself, goodForm, good}
-use Rattle.message.specs.Reports.{phenomena, goodVolcano, emptyVolcano, goodPhenomenon, phenomenonWords, goodObservation, emptyObservation, observationWords, goodLevel, emptyLevel, levelWords, goodEnding, emptyEnding, endingWords, goodReport, emptyReport, reportWords}
+use Rattle.message.specs.Reports.{phenomena, goodVolcano, emptyVolcano, goodPhenomenon, phenomenonWords, goodObservation, emptyObservation, observationWords, goodEnding, emptyEnding, endingWords, goodReport, emptyReport, reportWords}
 use Rattle.message.specs.Sample.{sample, sampleText}
 use Rattle.message.specs.Words.{headingWords, lineWords, areaWords, testTexts, formWords, bodyWords, wordsOf, textOf}
 

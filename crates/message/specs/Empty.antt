@@ -1,8 +1,8 @@
 -- 01, "A refusal returns an empty record, all zero."
 -- Assumes nothing.
-use Rattle.shapes.specs.Groups.{noGroup, noPeriod}
-use Rattle.shapes.specs.Headings.{noDesignator}
-use Rattle.shapes.specs.Sequences.{noSequence}
+use Rattle.groups.specs.Groups.{noGroup, noPeriod}
+use Rattle.headings.specs.Headings.{noDesignator}
+use Rattle.headings.specs.Sequences.{noSequence}
 use Rattle.message.specs.Names.{noName}
 use Rattle.message.specs.Reports.{noReport}
 use Rattle.message.specs.declared.Form.the-variants.{NoForm}

@@ -8,7 +8,7 @@ use lib.ListN.{length, take, drop, replicate}
 use Rattle.lists.specs.Choice.{both}
 use Rattle.lists.specs.Lists.{allOf}
 use Rattle.words.specs.Bytes.{between}
-use Rattle.shapes.specs.Names.{nameText, pieces}
+use Rattle.names.specs.Names.{nameText, pieces}
 use Rattle.message.specs.Limits.{nameBytes}
 use Rattle.message.specs.declared.Name.{Name}
 

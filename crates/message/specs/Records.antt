@@ -7,12 +7,12 @@ use lib.Dec.{eqb}
 use Rattle.lists.specs.Choice.{both, either}
 use Rattle.words.specs.Bytes.{between}
 use Rattle.figures.specs.Letters.{goodLetters}
-use Rattle.shapes.specs.Groups.{goodGroup, goodPeriod, noGroup, noPeriod}
-use Rattle.shapes.specs.Headings.{goodDesignator, goodCorrection, noDesignator}
-use Rattle.shapes.specs.Sequences.{goodSequence, noSequence}
-use Rattle.shapes.specs.Tables.{goodClosing}
-use Rattle.shapes.specs.declared.Group.{Group}
-use Rattle.shapes.specs.declared.Sequence.{Sequence}
+use Rattle.groups.specs.Groups.{goodGroup, goodPeriod, noGroup, noPeriod}
+use Rattle.headings.specs.Headings.{goodDesignator, goodCorrection, noDesignator}
+use Rattle.headings.specs.Sequences.{goodSequence, noSequence}
+use Rattle.names.specs.Names.{goodClosing}
+use Rattle.groups.specs.declared.Group.{Group}
+use Rattle.headings.specs.declared.Sequence.{Sequence}
 use Rattle.message.specs.Limits.{areaLimit}
 use Rattle.message.specs.Names.{goodName, noName}
 use Rattle.message.specs.Reports.{goodReport, emptyReport, noReport}

@@ -8,15 +8,14 @@ use lib.ListN.{getD, take}
 use Rattle.lists.specs.Choice.{pick, both, either}
 use Rattle.lists.specs.Text.{bytes}
 use Rattle.words.specs.Bytes.{between}
-use Rattle.figures.specs.Keywords.{wordOf}
 use Rattle.coordinates.specs.Points.{goodPoint, emptyPoint, noPoint, pointWords}
-use Rattle.shapes.specs.Groups.{goodTime, spellTime}
-use Rattle.shapes.specs.Levels.{flight, goodLevelWord, spellLevelWord}
-use Rattle.shapes.specs.Speeds.{goodSpeed, spellSpeed}
-use Rattle.shapes.specs.Tables.{compassWords, intensityWords, goodIntensity, numbered}
-use Rattle.shapes.specs.declared.Level.{Level}
-use Rattle.shapes.specs.declared.Level.the-variants.{NoLevel, Flight, SurfaceFlight, SurfaceMetres, SurfaceFeet, Band, TopFlight, AboveFlight, TopAboveFlight}
-use Rattle.shapes.specs.declared.Time.{Time}
+use Rattle.groups.specs.Groups.{goodTime, spellTime}
+use Rattle.levels.specs.Levels.{goodLevel, emptyLevel, levelWords}
+use Rattle.motions.specs.Speeds.{goodSpeed, spellSpeed}
+use Rattle.motions.specs.Motions.{goodCompass, spellCompass, goodIntensity, spellIntensity}
+use Rattle.levels.specs.declared.Level.{Level}
+use Rattle.levels.specs.declared.Level.the-variants.{NoLevel}
+use Rattle.groups.specs.declared.Time.{Time}
 use Rattle.message.specs.Limits.{mountainLimit}
 use Rattle.message.specs.Names.{goodName, emptyName, noName, nameWords}
 use Rattle.message.specs.Places.{goodPlace, emptyPlace, noPlace, placeWords}
@@ -94,45 +93,11 @@ unfoldable pub observationWords : Observation → List (List ℕ)
 observationWords o =
     pick (eqb (o .word) 1) (bytes "OBS") (bytes "FCST") ∷ pick (o .timed) (bytes "AT" ∷ spellTime (o .time) ∷ []) []
 
--- "…, `TOP FLnnn`, `ABV FLnnn`, `TOP ABV FLnnn`. No number is zero."
-unfoldable pub goodLevel : Level → Bool
-goodLevel NoLevel = false
-goodLevel (Flight n) = goodLevelWord (Flight n)
-goodLevel (SurfaceFlight n) = goodLevelWord (SurfaceFlight n)
-goodLevel (SurfaceMetres n) = goodLevelWord (SurfaceMetres n)
-goodLevel (SurfaceFeet n) = goodLevelWord (SurfaceFeet n)
-goodLevel (Band low high) = goodLevelWord (Band low high)
-goodLevel (TopFlight n) = flight n
-goodLevel (AboveFlight n) = flight n
-goodLevel (TopAboveFlight n) = flight n
-
-unfoldable pub emptyLevel : Level → Bool
-emptyLevel NoLevel = true
-emptyLevel (Flight n) = false
-emptyLevel (SurfaceFlight n) = false
-emptyLevel (SurfaceMetres n) = false
-emptyLevel (SurfaceFeet n) = false
-emptyLevel (Band low high) = false
-emptyLevel (TopFlight n) = false
-emptyLevel (AboveFlight n) = false
-emptyLevel (TopAboveFlight n) = false
-
-unfoldable pub levelWords : Level → List (List ℕ)
-levelWords NoLevel = []
-levelWords (Flight n) = spellLevelWord (Flight n) ∷ []
-levelWords (SurfaceFlight n) = spellLevelWord (SurfaceFlight n) ∷ []
-levelWords (SurfaceMetres n) = spellLevelWord (SurfaceMetres n) ∷ []
-levelWords (SurfaceFeet n) = spellLevelWord (SurfaceFeet n) ∷ []
-levelWords (Band low high) = spellLevelWord (Band low high) ∷ []
-levelWords (TopFlight n) = bytes "TOP" ∷ spellLevelWord (Flight n) ∷ []
-levelWords (AboveFlight n) = bytes "ABV" ∷ spellLevelWord (Flight n) ∷ []
-levelWords (TopAboveFlight n) = bytes "TOP" ∷ bytes "ABV" ∷ spellLevelWord (Flight n) ∷ []
-
 -- "Ending: either `MOV`, a compass point, `nnKT` or `nnKMH` (01 to 99), or `STNR`, then `INTSF`, `WKN` or `NC`; or, in WS only, the
 -- intensity word first and then `FCST AT GGggZ` and a location, …. Exactly one of the two."
 unfoldable pub goodEnding : ℕ → Ending → Place → Bool
 goodEnding kind NoEnding f = false
-goodEnding kind (Moving d s i) f = both (both (leb d 15) (both (goodSpeed s) (goodIntensity i))) (emptyPlace f)
+goodEnding kind (Moving d s i) f = both (both (goodCompass d) (both (goodSpeed s) (goodIntensity i))) (emptyPlace f)
 goodEnding kind (Stationary i) f = both (goodIntensity i) (emptyPlace f)
 goodEnding kind (Forecast i) f = both (both (eqb kind 2) (goodIntensity i)) (goodPlace f)
 
@@ -142,15 +107,12 @@ emptyEnding (Moving d s i) = false
 emptyEnding (Stationary i) = false
 emptyEnding (Forecast i) = false
 
-abbrev pub intensityWord : ℕ → List ℕ
-intensityWord i = numbered 1 intensityWords i
-
 -- "the time being that of the end of VALID", the area's closing word telling what the entire area is called
 unfoldable pub endingWords : Time → ℕ → Ending → Place → List (List ℕ)
 endingWords end closing NoEnding f = []
-endingWords end closing (Moving d s i) f = bytes "MOV" ∷ wordOf compassWords d ∷ spellSpeed s ∷ intensityWord i ∷ []
-endingWords end closing (Stationary i) f = bytes "STNR" ∷ intensityWord i ∷ []
-endingWords end closing (Forecast i) f = intensityWord i ∷ bytes "FCST" ∷ bytes "AT" ∷ spellTime end ∷ placeWords closing f
+endingWords end closing (Moving d s i) f = bytes "MOV" ∷ spellCompass d ∷ spellSpeed s ∷ spellIntensity i ∷ []
+endingWords end closing (Stationary i) f = bytes "STNR" ∷ spellIntensity i ∷ []
+endingWords end closing (Forecast i) f = spellIntensity i ∷ bytes "FCST" ∷ bytes "AT" ∷ spellTime end ∷ placeWords closing f
 
 -- a report of a bulletin of that kind
 unfoldable pub goodReport : ℕ → Report → Bool

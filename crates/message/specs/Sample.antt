@@ -8,8 +8,8 @@ use lib.ListN.{replicate}
 use Rattle.lists.specs.Base.{worth}
 use Rattle.lists.specs.Text.{bytes}
 use Rattle.coordinates.specs.declared.Coordinate.{Coordinate}
-use Rattle.shapes.specs.declared.Group.{Group}
-use Rattle.shapes.specs.declared.Level.the-variants.{SurfaceFlight}
+use Rattle.groups.specs.declared.Group.{Group}
+use Rattle.levels.specs.declared.Level.the-variants.{SurfaceFlight}
 use Rattle.message.specs.Names.{noName}
 use Rattle.message.specs.Places.{noSide, noPlace}
 use Rattle.message.specs.Reports.{noVolcano}

@@ -10,12 +10,13 @@ use Rattle.lists.specs.Choice.{pick}
 use Rattle.lists.specs.Text.{bytes}
 use Rattle.words.specs.Words.{line}
 use Rattle.figures.specs.Letters.{inLetters}
-use Rattle.shapes.specs.Groups.{spellGroup, spellPeriod}
-use Rattle.shapes.specs.Headings.{spellDesignator, spellCorrection, spellOffice}
-use Rattle.shapes.specs.Sequences.{spellSequence}
-use Rattle.shapes.specs.Tables.{closingWords, numbered}
-use Rattle.shapes.specs.declared.Group.{Group}
-use Rattle.shapes.specs.declared.Time.{Time}
+use Rattle.groups.specs.Groups.{spellGroup, spellPeriod}
+use Rattle.headings.specs.Headings.{spellDesignator, spellCorrection, spellOffice}
+use Rattle.headings.specs.Sequences.{spellSequence}
+use Rattle.figures.specs.Tables.{numbered}
+use Rattle.names.specs.Names.{closingWords}
+use Rattle.groups.specs.declared.Group.{Group}
+use Rattle.groups.specs.declared.Time.{Time}
 use Rattle.message.specs.Names.{nameWords}
 use Rattle.message.specs.Reports.{reportWords}
 use Rattle.message.specs.declared.Area.{Area}

@@ -1,8 +1,8 @@
 -- The refusal table, numbers 1 to 3, one law to a line: what `checkOf` is where the facts of that line hold.
 -- Assumes nothing.
-use mathlib.Core.Bool.{Bool, true, false, not}
+use mathlib.Core.Bool.{true, not}
 use mathlib.Core.List.{List, [], _∷_, _++_}
-use mathlib.Core.Path.{_≡_, refl, ap, sym, _∙_}
+use mathlib.Core.Path.{_≡_, refl, sym, _∙_}
 use Prim.Native.Nat.{ℕ, suc, _+_, _≤_, _<_, zero-le}
 use native.Mathlib.Nat.{add-zero}
 use native.Mathlib.Numerals.{add-one}
@@ -11,9 +11,9 @@ use lib.Dec.{ltb, eqb, lit≤}
 use lib.ListN.{length, take, drop, getD, length-append, length-drop}
 use lib.Seq.{split-at, drop-append-add}
 use borrow.Author.Tests.{lt-ltb, le-ltb, eq-eqb, ne-eqb, ltb-true, ltb-false, eqb-true, eqb-false}
-use Rattle.lists.specs.Choice.{pick, either}
+use Rattle.lists.specs.Choice.{either}
 use Rattle.lists.specs.Lists.{indexOf, indexFrom, allOf}
-use Rattle.lists.proofs.Choice.{by, either-left, either-right, both-true}
+use Rattle.lists.proofs.Choice.{by, either-left, either-right}
 use Rattle.lists.proofs.Lists.{index-within, index-found, index-clear, index-past, index-none, index-all, all-append, all-take, all-weaken, all-not-not}
 use Rattle.words.specs.Bytes.{allowed, letter, digit, stroke, bracket, blank, solid, equals, barred}
 use Rattle.words.specs.Check.{checkOf, barredAt, equalsAt, afterAt}

@@ -1,18 +1,17 @@
 -- The laws of words: what the next word is, what every word is, and that joining words and reading them undo one another.
 -- Assumes nothing.
-use mathlib.Core.Bool.{Bool, true, false, not}
+use mathlib.Core.Bool.{Bool, true, false}
 use mathlib.Core.List.{List, [], _∷_, _++_, map, append-nil, append-assoc, map-append}
 use mathlib.Core.Path.{_≡_, refl, ap, sym, _∙_}
-use Prim.Native.Nat.{ℕ, zero, suc, _+_, _-_, _≤_, _<_, zero-le, suc-le-suc}
-use native.Mathlib.Nat.{zero-add, suc-add, add-suc, add-zero, not-suc-le-zero, le-of-suc-le-suc}
+use Prim.Native.Nat.{ℕ, suc, _+_, _-_, _≤_, _<_, zero-le, suc-le-suc}
+use native.Mathlib.Nat.{suc-add, add-suc, add-zero, not-suc-le-zero}
 use native.Mathlib.Omega.{arith}
 use lib.Dec.{ltb}
-use lib.ListN.{length, take, drop, getD, length-append, length-drop, drop-of-length-le}
+use lib.ListN.{length, take, drop, getD, length-drop}
 use lib.Seq.{drop-drop, append-snoc, length-take-le, drop-length, getD-drop}
-use borrow.Author.Tests.{lt-ltb, ltb-true, not-true, not-false}
-use Rattle.lists.specs.Choice.{pick, both}
+use borrow.Author.Tests.{lt-ltb, ltb-true, not-true}
 use Rattle.lists.specs.Lists.{indexOf, indexFrom, allOf, part}
-use Rattle.lists.proofs.Choice.{by, clash, both-left, both-right, both-true}
+use Rattle.lists.proofs.Choice.{by, both-left, both-right, both-true}
 use Rattle.lists.proofs.Lists.{all-append, all-map, index-found, index-within, from-within, from-none}
 use Rattle.words.specs.Bytes.{blank, solid}
 use Rattle.words.specs.declared.Span.{Span}
@@ -182,7 +181,7 @@ words-in-solid t =
 -- Reading words back.
 
 -- the words from place p on, w being read so far, without their places
-abbrev bytesFrom : ℕ → List ℕ → List ℕ → List (List ℕ)
+abbrev pub bytesFrom : ℕ → List ℕ → List ℕ → List (List ℕ)
 bytesFrom p w t = map (λ (v : Word). v .bytes) (scan p w t)
 
 bytes-ended : (w : List ℕ) (p q : ℕ) (us vs : List Word) → map (λ (v : Word). v .bytes) us ≡ map (λ (v : Word). v .bytes) vs
@@ -191,7 +190,7 @@ bytes-ended [] p q us vs e = e
 bytes-ended (b ∷ w) p q us vs e = rw e
 
 -- the place where a scan begins tells in the places only
-bytes-placeless : (p q : ℕ) (w t : List ℕ) → bytesFrom p w t ≡ bytesFrom q w t
+pub bytes-placeless : (p q : ℕ) (w t : List ℕ) → bytesFrom p w t ≡ bytesFrom q w t
 unfolding scan
 bytes-placeless p q w [] = bytes-ended w p q (record { place = p; bytes = [] } ∷ []) (record { place = q; bytes = [] } ∷ []) refl
 bytes-placeless p q w (b ∷ bs) = by (blank b)

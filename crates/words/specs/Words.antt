@@ -3,11 +3,11 @@
 -- Assumes nothing.
 use mathlib.Core.Bool.{Bool}
 use mathlib.Core.List.{List, [], _∷_, _++_, map}
-use Prim.Native.Nat.{ℕ, suc, _+_, _-_}
+use Prim.Native.Nat.{ℕ, suc, _-_}
 use lib.Dec.{ltb}
 use lib.ListN.{length, drop}
 use Rattle.lists.specs.Choice.{pick, both}
-use Rattle.lists.specs.Lists.{indexFrom, part, allOf}
+use Rattle.lists.specs.Lists.{indexFrom, allOf}
 use Rattle.words.specs.Bytes.{blank, solid}
 use Rattle.words.specs.declared.Span.{Span}
 

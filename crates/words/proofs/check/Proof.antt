@@ -8,22 +8,22 @@ use Rattle.words.proofs.check.Statement.{statement}
 use Rattle.words.proofs.check.Tie as tie
 
 returns : tie.Need-returns
-returns c = refused-empty (c .before .before .args .bulletin .now) (omega arith)
+returns c = search (refused-empty, arith)
 
 returns-2 : tie.Need-returns-2
-returns-2 c = refused-long (c .before .before .before .args .bulletin .now) (omega arith) (omega arith)
+returns-2 c = search (refused-long, arith)
 
 first-barred-requires : tie.Need-first-barred-requires
 first-barred-requires c κs = search needs
 
 returns-3 : tie.Need-returns-3
-returns-3 c = refused-barred (c .before .before .before .before .before .args .bulletin .now) (omega arith) (omega arith) (c .before .first-barred .ensures) (omega arith)
+returns-3 c = search (refused-barred, arith)
 
 first-equals-requires : tie.Need-first-equals-requires
 first-equals-requires c κs = search needs
 
 returns-4 : tie.Need-returns-4
-returns-4 c = refused-no-equals (c .before .before .before .before .before .before .before .args .bulletin .now) (omega arith) (omega arith) (c .before .before .before .first-barred .ensures) (omega arith) (c .before .first-equals .ensures) (omega arith)
+returns-4 c = search (refused-no-equals, arith)
 
 add-first-solid : tie.Need-add-first-solid
 add-first-solid c = omega (arith, index-within equals (c .before .before .before .before .before .before .before .args .bulletin .now))
@@ -32,10 +32,10 @@ first-solid-requires : tie.Need-first-solid-requires
 first-solid-requires c κs = search needs
 
 returns-5 : tie.Need-returns-5
-returns-5 c = refused-after (c .before .before .before .before .before .before .before .before .before .args .bulletin .now) (omega arith) (omega arith) (c .before .before .before .before .before .first-barred .ensures) (omega arith) (c .before .before .before .first-equals .ensures) (omega arith) (c .before .first-solid .ensures) (omega arith)
+returns-5 c = search (refused-after, arith)
 
 returns-6 : tie.Need-returns-6
-returns-6 c = not-refused (c .before .before .before .before .before .before .before .before .before .args .bulletin .now) (omega arith) (omega arith) (c .before .before .before .before .before .first-barred .ensures) (omega arith) (c .before .before .before .first-equals .ensures) (omega arith) (c .before .first-solid .ensures) (omega arith)
+returns-6 c = search (not-refused, arith)
 
 pub check-spec : {M : Type 1} → statement M
 check-spec =

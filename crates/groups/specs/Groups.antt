@@ -12,9 +12,9 @@ use Rattle.lists.specs.Text.{bytes}
 use Rattle.words.specs.Bytes.{between}
 use Rattle.figures.specs.Figures.{twoOf, inFigures}
 use Rattle.figures.specs.Reads.{kept}
-use Rattle.shapes.specs.declared.Group.{Group}
-use Rattle.shapes.specs.declared.Period.{Period}
-use Rattle.shapes.specs.declared.Time.{Time}
+use Rattle.groups.specs.declared.Group.{Group}
+use Rattle.groups.specs.declared.Period.{Period}
+use Rattle.groups.specs.declared.Time.{Time}
 
 -- "hour 00-23, minute 00-59"
 abbrev pub onClock : ℕ → ℕ → Bool

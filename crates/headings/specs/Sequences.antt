@@ -9,7 +9,7 @@ use Rattle.lists.specs.Choice.{pick, both, either}
 use Rattle.words.specs.Bytes.{between, letter as isLetter}
 use Rattle.figures.specs.Figures.{threeOf, inFigures}
 use Rattle.figures.specs.Reads.{kept}
-use Rattle.shapes.specs.declared.Sequence.{Sequence}
+use Rattle.headings.specs.declared.Sequence.{Sequence}
 
 -- "perhaps a letter, then digits": no letter and 1 to 3 digits, or a letter and 1 or 2
 abbrev pub characters : Sequence → Bool

@@ -11,8 +11,8 @@ use Rattle.lists.specs.Text.{bytes}
 use Rattle.words.specs.Bytes.{between}
 use Rattle.figures.specs.Figures.{twoOf, inFigures}
 use Rattle.figures.specs.Reads.{kept}
-use Rattle.shapes.specs.Tables.{numberIn, numbered, inNumbers}
-use Rattle.shapes.specs.declared.Speed.{Speed}
+use Rattle.figures.specs.Tables.{numberIn, numbered, inNumbers}
+use Rattle.motions.specs.declared.Speed.{Speed}
 
 -- 1 `KT`, 2 `KMH`
 unfoldable pub unitWords : List (List ℕ)

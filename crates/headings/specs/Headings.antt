@@ -14,8 +14,20 @@ use Rattle.words.specs.Bytes.{between}
 use Rattle.figures.specs.Figures.{twoOf, inFigures}
 use Rattle.figures.specs.Letters.{lettersOf, inLetters, goodLetters}
 use Rattle.figures.specs.Reads.{kept}
-use Rattle.shapes.specs.Tables.{typeWords, numbered, typeOf, goodType}
-use Rattle.shapes.specs.declared.Designator.{Designator}
+use Rattle.figures.specs.Tables.{numberIn, numbered, inNumbers}
+use Rattle.headings.specs.declared.Designator.{Designator}
+
+-- the types of bulletin: `WS` and `WV`
+unfoldable pub typeWords : List (List ℕ)
+typeWords = bytes "WS" ∷ bytes "WV" ∷ []
+
+-- a type is kept as its kind in the listing: 2 WS, 3 WV
+abbrev pub typeOf : List ℕ → ℕ
+typeOf w = numberIn 2 typeWords w
+
+abbrev pub goodType : ℕ → Bool
+goodType n = inNumbers 2 typeWords n
+
 
 -- "`WS` or `WV`, two letters, two digits, as one word"
 unfoldable pub goodDesignator : Designator → Bool

@@ -12,7 +12,18 @@ use Rattle.lists.specs.Lists.{allOf}
 use Rattle.lists.specs.Text.{bytes}
 use Rattle.words.specs.Bytes.{letter}
 use Rattle.figures.specs.Keywords.{wordIn, inTable}
-use Rattle.shapes.specs.Tables.{closingWords}
+use Rattle.figures.specs.Tables.{numberIn, inNumbers}
+
+-- the closing words of an area's name: `FIR`, `FIR/UIR` or `CTA`
+unfoldable pub closingWords : List (List ℕ)
+closingWords = bytes "FIR" ∷ bytes "FIR/UIR" ∷ bytes "CTA" ∷ []
+
+-- 1 FIR, 2 FIR/UIR, 3 CTA
+abbrev pub closingOf : List ℕ → ℕ
+closingOf w = numberIn 1 closingWords w
+
+abbrev pub goodClosing : ℕ → Bool
+goodClosing n = inNumbers 1 closingWords n
 
 -- letters and hyphens
 abbrev pub nameByte : ℕ → Bool

@@ -1,7 +1,7 @@
 -- 01, "Level: `FLnnn`, `SFC/FLnnn`, `SFC/nnnnM`, `SFC/nnnnFT`, `SFC/nnnnnFT` (10000 up), `FLnnn/nnn` (lower below upper), …. No number is zero."
 -- The levels that are one word. `TOP` and `ABV` are words of their own before a `FLnnn`.
 -- Assumes nothing.
-use mathlib.Core.Bool.{Bool, false}
+use mathlib.Core.Bool.{Bool, true, false}
 use mathlib.Core.List.{List, [], _∷_, _++_}
 use Prim.Native.Char.{code}
 use Prim.Native.Nat.{ℕ, _-_}
@@ -13,12 +13,16 @@ use Rattle.lists.specs.Text.{bytes}
 use Rattle.words.specs.Bytes.{between}
 use Rattle.figures.specs.Figures.{figuresOf, inFigures}
 use Rattle.figures.specs.Reads.{kept}
-use Rattle.shapes.specs.declared.Level.{Level}
-use Rattle.shapes.specs.declared.Level.the-variants.{NoLevel, Flight, SurfaceFlight, SurfaceMetres, SurfaceFeet, Band, TopFlight, AboveFlight, TopAboveFlight}
+use Rattle.levels.specs.declared.Level.{Level}
+use Rattle.levels.specs.declared.Level.the-variants.{NoLevel, Flight, SurfaceFlight, SurfaceMetres, SurfaceFeet, Band, TopFlight, AboveFlight, TopAboveFlight}
 
 -- nnn, not zero
 abbrev pub flight : ℕ → Bool
 flight n = between 1 999 n
+
+-- "`FLnnn/nnn` (lower below upper)"
+abbrev pub goodBand : ℕ → ℕ → Bool
+goodBand low high = both (flight low) (both (flight high) (ltb low high))
 
 -- a level that is one word, with its numbers in range
 unfoldable pub goodLevelWord : Level → Bool
@@ -27,7 +31,7 @@ goodLevelWord (Flight n) = flight n
 goodLevelWord (SurfaceFlight n) = flight n
 goodLevelWord (SurfaceMetres n) = between 1 9999 n
 goodLevelWord (SurfaceFeet n) = between 1 99999 n
-goodLevelWord (Band low high) = both (flight low) (both (flight high) (ltb low high))
+goodLevelWord (Band low high) = goodBand low high
 goodLevelWord (TopFlight n) = false
 goodLevelWord (AboveFlight n) = false
 goodLevelWord (TopAboveFlight n) = false
@@ -79,3 +83,37 @@ tenEleven w =
 unfoldable pub levelOf : List ℕ → Level
 levelOf w =
     pick (eqb (length w) 5) (five w) (pick (eqb (length w) 9) (nine w) (pick (between 10 11 (length w)) (tenEleven w) NoLevel))
+
+-- "…, `TOP FLnnn`, `ABV FLnnn`, `TOP ABV FLnnn`. No number is zero."
+unfoldable pub goodLevel : Level → Bool
+goodLevel NoLevel = false
+goodLevel (Flight n) = goodLevelWord (Flight n)
+goodLevel (SurfaceFlight n) = goodLevelWord (SurfaceFlight n)
+goodLevel (SurfaceMetres n) = goodLevelWord (SurfaceMetres n)
+goodLevel (SurfaceFeet n) = goodLevelWord (SurfaceFeet n)
+goodLevel (Band low high) = goodLevelWord (Band low high)
+goodLevel (TopFlight n) = flight n
+goodLevel (AboveFlight n) = flight n
+goodLevel (TopAboveFlight n) = flight n
+
+unfoldable pub emptyLevel : Level → Bool
+emptyLevel NoLevel = true
+emptyLevel (Flight n) = false
+emptyLevel (SurfaceFlight n) = false
+emptyLevel (SurfaceMetres n) = false
+emptyLevel (SurfaceFeet n) = false
+emptyLevel (Band low high) = false
+emptyLevel (TopFlight n) = false
+emptyLevel (AboveFlight n) = false
+emptyLevel (TopAboveFlight n) = false
+
+unfoldable pub levelWords : Level → List (List ℕ)
+levelWords NoLevel = []
+levelWords (Flight n) = spellLevelWord (Flight n) ∷ []
+levelWords (SurfaceFlight n) = spellLevelWord (SurfaceFlight n) ∷ []
+levelWords (SurfaceMetres n) = spellLevelWord (SurfaceMetres n) ∷ []
+levelWords (SurfaceFeet n) = spellLevelWord (SurfaceFeet n) ∷ []
+levelWords (Band low high) = spellLevelWord (Band low high) ∷ []
+levelWords (TopFlight n) = bytes "TOP" ∷ spellLevelWord (Flight n) ∷ []
+levelWords (AboveFlight n) = bytes "ABV" ∷ spellLevelWord (Flight n) ∷ []
+levelWords (TopAboveFlight n) = bytes "TOP" ∷ bytes "ABV" ∷ spellLevelWord (Flight n) ∷ []

@@ -1,0 +1,114 @@
+// Day, hour and minute: the six-digit group, `group/group` and `GGggZ`.
+ghost use mathlib.Core.Path.{_≡_};
+ghost use Rattle.groups.specs.Groups.{goodGroup, groupOf, goodPeriod, periodOf, goodTime, timeOf, onClock};
+
+use figures::two;
+use lists::both;
+
+// All zero is no group.
+pub struct Group {
+    pub day: u8,
+    pub hour: u8,
+    pub minute: u8,
+}
+
+pub struct Period {
+    pub from: Group,
+    pub to: Group,
+}
+
+// Hour 24 is no time.
+pub struct Time {
+    pub hour: u8,
+    pub minute: u8,
+}
+
+fn on_clock(hour: u8, minute: u8) -> bool
+    ensures { λ r. ⌜ r ≡ onClock hour minute ⌝ }
+{
+    both(hour <= 23, minute <= 59)
+}
+
+pub fn good_group(g: Group) -> bool
+    ensures { λ r. ⌜ r ≡ goodGroup g ⌝ }
+{
+    both(both(1 <= g.day, g.day <= 31), on_clock(g.hour, g.minute))
+}
+
+// The group that a word is, or all zero.
+pub fn group(w: &[u8]) -> Group
+    ensures { λ r. ⌜ r ≡ groupOf (now (w .entry)) ⌝ }
+{
+    let none = Group {
+        day: 0,
+        hour: 0,
+        minute: 0,
+    };
+    if w.len() != 6 {
+        return none;
+    }
+    let day = two(&w[0..2]);
+    let hour = two(&w[2..4]);
+    let minute = two(&w[4..6]);
+    let g = Group { day, hour, minute };
+    if good_group(g) { g } else { none }
+}
+
+pub fn good_period(p: Period) -> bool
+    ensures { λ r. ⌜ r ≡ goodPeriod p ⌝ }
+{
+    let from = p.from;
+    let to = p.to;
+    both(good_group(from), good_group(to))
+}
+
+// The period that a word `group/group` is, or all zero.
+pub fn period(w: &[u8]) -> Period
+    ensures { λ r. ⌜ r ≡ periodOf (now (w .entry)) ⌝ }
+{
+    let day = Group {
+        day: 0,
+        hour: 0,
+        minute: 0,
+    };
+    let none = Period {
+        from: day,
+        to: day,
+    };
+    if w.len() != 13 {
+        return none;
+    }
+    if w[6] != 47 {
+        return none;
+    }
+    let from = group(&w[0..6]);
+    let to = group(&w[7..13]);
+    let p = Period { from, to };
+    if good_period(p) { p } else { none }
+}
+
+pub fn good_time(t: Time) -> bool
+    ensures { λ r. ⌜ r ≡ goodTime t ⌝ }
+{
+    on_clock(t.hour, t.minute)
+}
+
+// The time that a word `GGggZ` is, or hour 24.
+pub fn clock_time(w: &[u8]) -> Time
+    ensures { λ r. ⌜ r ≡ timeOf (now (w .entry)) ⌝ }
+{
+    let none = Time {
+        hour: 24,
+        minute: 0,
+    };
+    if w.len() != 5 {
+        return none;
+    }
+    if w[4] != 90 {
+        return none;
+    }
+    let hour = two(&w[0..2]);
+    let minute = two(&w[2..4]);
+    let t = Time { hour, minute };
+    if good_time(t) { t } else { none }
+}

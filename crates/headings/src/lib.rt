@@ -1,0 +1,182 @@
+// The words of heading and first line that have a shape of their own: designator, correction, office and sequence.
+ghost use mathlib.Core.Path.{_≡_};
+ghost use Rattle.figures.specs.Letters.{goodLetters};
+ghost use Rattle.headings.specs.Headings.{goodType, typeOf, goodDesignator, designatorOf, goodCorrection, correctionOf, officeOf};
+ghost use Rattle.headings.specs.Sequences.{goodSequence, sequenceOf};
+
+use figures::code;
+use figures::is_letter;
+use figures::letters;
+use figures::three;
+use figures::two;
+use lists::both;
+use lists::either;
+
+// The type as its kind in the listing, 2 WS or 3 WV; the two letters in base 256; the two digits. All zero is none.
+pub struct Designator {
+    pub kind: u8,
+    pub region: u32,
+    pub number: u8,
+}
+
+// As written: a letter or 0, how many digits, and the number that they count. All zero is none.
+pub struct Sequence {
+    pub letter: u8,
+    pub digits: u8,
+    pub number: u16,
+}
+
+// The number is that of two letters.
+pub fn two_letters(n: u32) -> bool
+    ensures { λ r. ⌜ r ≡ goodLetters 2 n ⌝ }
+{
+    let first = is_letter((n / 256 % 256) as u8);
+    let second = is_letter((n % 256) as u8);
+    both(n < 65536, both(first, second))
+}
+
+// The number is that of four letters.
+pub fn four_letters(n: u32) -> bool
+    ensures { λ r. ⌜ r ≡ goodLetters 4 n ⌝ }
+{
+    let first = is_letter((n / 256 / 256 / 256 % 256) as u8);
+    let second = is_letter((n / 256 / 256 % 256) as u8);
+    let third = is_letter((n / 256 % 256) as u8);
+    let fourth = is_letter((n % 256) as u8);
+    both(first, both(second, both(third, fourth)))
+}
+
+// 2 for `WS`, 3 for `WV`, 0 for any other word.
+fn kind_of(w: &[u8]) -> u8
+    ensures { λ r. ⌜ r ≡ typeOf (now (w .entry)) ⌝ }
+{
+    let c = code(w);
+    if c == 0x01_57_53 {
+        return 2;
+    }
+    if c == 0x01_57_56 {
+        return 3;
+    }
+    0
+}
+
+pub fn good_designator(d: Designator) -> bool
+    ensures { λ r. ⌜ r ≡ goodDesignator d ⌝ }
+{
+    let kind = both(2 <= d.kind, d.kind <= 3);
+    both(kind, both(two_letters(d.region), d.number <= 99))
+}
+
+// The designator that a word is, or all zero.
+pub fn designator(w: &[u8]) -> Designator
+    ensures { λ r. ⌜ r ≡ designatorOf (now (w .entry)) ⌝ }
+{
+    let none = Designator {
+        kind: 0,
+        region: 0,
+        number: 0,
+    };
+    if w.len() != 6 {
+        return none;
+    }
+    let kind = kind_of(&w[0..2]);
+    let region = letters(&w[2..4], 2);
+    let number = two(&w[4..6]);
+    let d = Designator {
+        kind,
+        region,
+        number,
+    };
+    if good_designator(d) { d } else { none }
+}
+
+pub fn good_correction(c: u8) -> bool
+    ensures { λ r. ⌜ r ≡ goodCorrection c ⌝ }
+{
+    both(65 <= c, c <= 88)
+}
+
+// The letter of a correction, `CCA` to `CCX`, or 0.
+pub fn correction(w: &[u8]) -> u8
+    ensures { λ r. ⌜ r ≡ correctionOf (now (w .entry)) ⌝ }
+{
+    if w.len() != 3 {
+        return 0;
+    }
+    if w[0] != 67 {
+        return 0;
+    }
+    if w[1] != 67 {
+        return 0;
+    }
+    let c = w[2];
+    if good_correction(c) { c } else { 0 }
+}
+
+// The four letters before the hyphen of an office, or 0.
+pub fn office(w: &[u8]) -> u32
+    ensures { λ r. ⌜ r ≡ officeOf (now (w .entry)) ⌝ }
+{
+    if w.len() != 5 {
+        return 0;
+    }
+    if w[4] != 45 {
+        return 0;
+    }
+    letters(&w[0..4], 4)
+}
+
+// One more than the greatest number of so many digits; 1 beyond three digits.
+fn ten_to(digits: u8) -> u16 {
+    match digits {
+        1 => 10,
+        2 => 100,
+        3 => 1000,
+        _ => 1,
+    }
+}
+
+pub fn good_sequence(s: Sequence) -> bool
+    ensures { λ r. ⌜ r ≡ goodSequence s ⌝ }
+{
+    let bare = both(s.letter == 0, both(1 <= s.digits, s.digits <= 3));
+    let lettered = both(is_letter(s.letter), both(1 <= s.digits, s.digits <= 2));
+    let digits = s.digits;
+    let counted = both(0 < s.number, s.number < ten_to(digits));
+    both(either(bare, lettered), counted)
+}
+
+// The sequence that a word is, or all zero.
+pub fn sequence(w: &[u8]) -> Sequence
+    ensures { λ r. ⌜ r ≡ sequenceOf (now (w .entry)) ⌝ }
+{
+    let none = Sequence {
+        letter: 0,
+        digits: 0,
+        number: 0,
+    };
+    let length = w.len();
+    if length < 1 {
+        return none;
+    }
+    if 3 < length {
+        return none;
+    }
+    let first = w[0];
+    if is_letter(first) {
+        let number = three(&w[1..]);
+        let s = Sequence {
+            letter: first,
+            digits: (length - 1) as u8,
+            number,
+        };
+        return if good_sequence(s) { s } else { none };
+    }
+    let number = three(w);
+    let s = Sequence {
+        letter: 0,
+        digits: length as u8,
+        number,
+    };
+    if good_sequence(s) { s } else { none }
+}

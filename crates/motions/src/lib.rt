@@ -1,0 +1,94 @@
+// Movement and change: compass points, speeds and intensity words.
+ghost use mathlib.Core.Path.{_≡_};
+ghost use Rattle.figures.specs.Tables.{numberIn};
+ghost use Rattle.motions.specs.Motions.{compassOf, intensityOf};
+ghost use Rattle.motions.specs.Speeds.{unitWords, goodSpeed, speedOf};
+
+use figures::code;
+use figures::find;
+use figures::two;
+use lists::both;
+
+// 1 to 99, in 1 knots or 2 kilometres an hour. All zero is none.
+pub struct Speed {
+    pub value: u8,
+    pub unit: u8,
+}
+
+// The codes of `N`, `NNE` and so on, clockwise.
+const COMPASS: [u64; 16] = [
+    0x01_4e,
+    0x01_4e_4e_45,
+    0x01_4e_45,
+    0x01_45_4e_45,
+    0x01_45,
+    0x01_45_53_45,
+    0x01_53_45,
+    0x01_53_53_45,
+    0x01_53,
+    0x01_53_53_57,
+    0x01_53_57,
+    0x01_57_53_57,
+    0x01_57,
+    0x01_57_4e_57,
+    0x01_4e_57,
+    0x01_4e_4e_57,
+];
+
+// The number of a compass point, 0 for N to 15 for NNW; 16 for any other word.
+pub fn compass(w: &[u8]) -> u8
+    ensures { λ r. ⌜ r ≡ compassOf (now (w .entry)) ⌝ }
+{
+    find(&COMPASS, code(w)) as u8
+}
+
+// 1 for `INTSF`, 2 for `WKN`, 3 for `NC`, 0 for any other word.
+pub fn intensity(w: &[u8]) -> u8
+    ensures { λ r. ⌜ r ≡ intensityOf (now (w .entry)) ⌝ }
+{
+    let c = code(w);
+    if c == 0x01_49_4e_54_53_46 {
+        return 1;
+    }
+    if c == 0x01_57_4b_4e {
+        return 2;
+    }
+    if c == 0x01_4e_43 {
+        return 3;
+    }
+    0
+}
+
+// 1 for `KT`, 2 for `KMH`, 0 for any other ending of the word.
+fn unit_of(w: &[u8]) -> u8
+    ensures { λ r. ⌜ r ≡ numberIn 1 unitWords (now (w .entry)) ⌝ }
+{
+    let c = code(w);
+    if c == 0x01_4b_54 {
+        return 1;
+    }
+    if c == 0x01_4b_4d_48 {
+        return 2;
+    }
+    0
+}
+
+pub fn good_speed(s: Speed) -> bool
+    ensures { λ r. ⌜ r ≡ goodSpeed s ⌝ }
+{
+    both(both(1 <= s.value, s.value <= 99), both(1 <= s.unit, s.unit <= 2))
+}
+
+// The speed that a word `nnKT` or `nnKMH` is, or all zero.
+pub fn speed_word(w: &[u8]) -> Speed
+    ensures { λ r. ⌜ r ≡ speedOf (now (w .entry)) ⌝ }
+{
+    let none = Speed { value: 0, unit: 0 };
+    if w.len() < 2 {
+        return none;
+    }
+    let value = two(&w[0..2]);
+    let unit = unit_of(&w[2..]);
+    let s = Speed { value, unit };
+    if good_speed(s) { s } else { none }
+}
