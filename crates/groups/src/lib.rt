@@ -36,7 +36,7 @@ pub fn good_group(g: Group) -> bool
 }
 
 // The group that a word is, or all zero.
-pub fn group(w: &[u8]) -> Group
+pub fn group_word(w: &[u8]) -> Group
     ensures { λ r. ⌜ r ≡ groupOf (now (w .entry)) ⌝ }
 {
     let none = Group {
@@ -63,7 +63,7 @@ pub fn good_period(p: Period) -> bool
 }
 
 // The period that a word `group/group` is, or all zero.
-pub fn period(w: &[u8]) -> Period
+pub fn period_word(w: &[u8]) -> Period
     ensures { λ r. ⌜ r ≡ periodOf (now (w .entry)) ⌝ }
 {
     let day = Group {
@@ -81,8 +81,8 @@ pub fn period(w: &[u8]) -> Period
     if w[6] != 47 {
         return none;
     }
-    let from = group(&w[0..6]);
-    let to = group(&w[7..13]);
+    let from = group_word(&w[0..6]);
+    let to = group_word(&w[7..13]);
     let p = Period { from, to };
     if good_period(p) { p } else { none }
 }
@@ -94,7 +94,7 @@ pub fn good_time(t: Time) -> bool
 }
 
 // The time that a word `GGggZ` is, or hour 24.
-pub fn clock_time(w: &[u8]) -> Time
+pub fn time_word(w: &[u8]) -> Time
     ensures { λ r. ⌜ r ≡ timeOf (now (w .entry)) ⌝ }
 {
     let none = Time {

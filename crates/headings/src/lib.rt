@@ -68,7 +68,7 @@ pub fn good_designator(d: Designator) -> bool
 }
 
 // The designator that a word is, or all zero.
-pub fn designator(w: &[u8]) -> Designator
+pub fn designator_word(w: &[u8]) -> Designator
     ensures { λ r. ⌜ r ≡ designatorOf (now (w .entry)) ⌝ }
 {
     let none = Designator {
@@ -97,7 +97,7 @@ pub fn good_correction(c: u8) -> bool
 }
 
 // The letter of a correction, `CCA` to `CCX`, or 0.
-pub fn correction(w: &[u8]) -> u8
+pub fn correction_word(w: &[u8]) -> u8
     ensures { λ r. ⌜ r ≡ correctionOf (now (w .entry)) ⌝ }
 {
     if w.len() != 3 {
@@ -114,7 +114,7 @@ pub fn correction(w: &[u8]) -> u8
 }
 
 // The four letters before the hyphen of an office, or 0.
-pub fn office(w: &[u8]) -> u32
+pub fn office_word(w: &[u8]) -> u32
     ensures { λ r. ⌜ r ≡ officeOf (now (w .entry)) ⌝ }
 {
     if w.len() != 5 {
@@ -147,7 +147,7 @@ pub fn good_sequence(s: Sequence) -> bool
 }
 
 // The sequence that a word is, or all zero.
-pub fn sequence(w: &[u8]) -> Sequence
+pub fn sequence_word(w: &[u8]) -> Sequence
     ensures { λ r. ⌜ r ≡ sequenceOf (now (w .entry)) ⌝ }
 {
     let none = Sequence {

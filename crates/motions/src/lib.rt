@@ -36,14 +36,14 @@ const COMPASS: [u64; 16] = [
 ];
 
 // The number of a compass point, 0 for N to 15 for NNW; 16 for any other word.
-pub fn compass(w: &[u8]) -> u8
+pub fn compass_word(w: &[u8]) -> u8
     ensures { λ r. ⌜ r ≡ compassOf (now (w .entry)) ⌝ }
 {
     find(&COMPASS, code(w)) as u8
 }
 
 // 1 for `INTSF`, 2 for `WKN`, 3 for `NC`, 0 for any other word.
-pub fn intensity(w: &[u8]) -> u8
+pub fn intensity_word(w: &[u8]) -> u8
     ensures { λ r. ⌜ r ≡ intensityOf (now (w .entry)) ⌝ }
 {
     let c = code(w);

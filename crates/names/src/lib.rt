@@ -39,7 +39,7 @@ pub fn name_word(w: &[u8]) -> bool
 }
 
 // 1 for `FIR`, 2 for `FIR/UIR`, 3 for `CTA`, 0 for any other word.
-pub fn closing(w: &[u8]) -> u8
+pub fn closing_word(w: &[u8]) -> u8
     ensures { λ r. ⌜ r ≡ closingOf (now (w .entry)) ⌝ }
 {
     let c = code(w);
@@ -63,7 +63,7 @@ pub fn in_name(w: &[u8], mountain: bool) -> bool
     if mountain {
         return both(word, code(w) != 0x01_50_53_4e);
     }
-    both(word, closing(w) == 0)
+    both(word, closing_word(w) == 0)
 }
 
 fn first_space(t: &[u8], start: usize) -> usize
