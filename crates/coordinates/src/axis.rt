@@ -2,7 +2,6 @@
 ghost use mathlib.Core.Path.{_≡_};
 ghost use Prim.Native.Nat.{_≤_};
 ghost use Rattle.coordinates.specs.Coordinates.{coordinateOf, goodCoordinate, written, counted};
-
 use crate::Coordinate;
 use figures::three;
 use figures::two;

@@ -2,7 +2,6 @@
 ghost use mathlib.Core.Path.{_≡_};
 ghost use Rattle.coordinates.specs.Coordinates.{northSouth, eastWest, coordinateOf, goodCoordinate, emptyCoordinate, signedOf};
 ghost use Rattle.coordinates.specs.Points.{samePoint, goodPoint, emptyPoint};
-
 use lists::both;
 
 mod axis;
@@ -49,7 +48,10 @@ pub fn good_longitude(c: Coordinate) -> bool
 pub fn empty_coordinate(c: Coordinate) -> bool
     ensures { λ r. ⌜ r ≡ emptyCoordinate c ⌝ }
 {
-    both(c.letter == 0, both(c.digits == 0, both(c.degrees == 0, c.minutes == 0)))
+    both(
+        c.letter == 0,
+        both(c.digits == 0, both(c.degrees == 0, c.minutes == 0)),
+    )
 }
 
 // The signed value in minutes, north and east positive.

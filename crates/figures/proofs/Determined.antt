@@ -1,12 +1,7 @@
 -- Each public contract of this crate determines its reply: two replies that it allows on the same arguments are equal.
 -- Assumes nothing.
-use mathlib.Core.List.{List}
-use mathlib.Core.Path.{_≡_}
-use Prim.Native.Nat.{ℕ}
-use contract.Lifetimes.{Lfts}
-use denote.Triple.Clauses.{AtExit}
-use borrow.Fn.Kinds.{PK, RK, Out, Dens, resT, endedOf}
 use Rattle.lists.proofs.Choice.{determined}
+use Rattle.lists.proofs.Determined.{Determines}
 use Rattle.figures.proofs.is_letter.Kinds as is-letter-kinds
 use Rattle.figures.proofs.is_letter.Reads as is-letter-reads
 use Rattle.figures.proofs.is_digit.Kinds as is-digit-kinds
@@ -23,10 +18,6 @@ use Rattle.figures.proofs.code.Kinds as code-kinds
 use Rattle.figures.proofs.code.Reads as code-reads
 use Rattle.figures.proofs.find.Kinds as find-kinds
 use Rattle.figures.proofs.find.Reads as find-reads
-
--- `Learnt` is what a caller learns of arguments, reply and parameters at exit: the function's `ensures`
-abbrev pub Determines : (n : ℕ) (ps : List (PK n)) (k : RK n) → Out n ps k → Type 0
-Determines n ps k Q = (κs : Lfts n) (a : Dens κs ps) (r s : resT k κs .Denot) (x y : AtExit (endedOf n ps k) κs) → Q κs a r x → Q κs a s y → r ≡ s
 
 pub is-letter-determined : Determines 0 is-letter-kinds.ps is-letter-kinds.r is-letter-reads.Learnt
 is-letter-determined κs a r s x y p q = determined p q

@@ -69,7 +69,7 @@ pub code-none : (w : List ℕ) → short w ≡ false → codeOf w ≡ 0
 unfolding codeOf
 code-none w f = pick-false (worthAfter 256 1 w) 0 f
 
-code-tells : (w k : List ℕ) → short k ≡ true → codeOf w ≡ codeOf k → w ≡ k
+pub code-tells : (w k : List ℕ) → short k ≡ true → codeOf w ≡ codeOf k → w ≡ k
 code-tells w k t e = by (short w) (λ s. code-only w k s t e) (λ f. absurd (omega (arith, code-some k t, code-none w f)))
 
 pub same-code : (w k : List ℕ) → short k ≡ true → eqb (codeOf w) (codeOf k) ≡ same w k

@@ -3,3 +3,5 @@ pub mod FigureLaws
 pub mod LetterLaws
 pub mod Keywords
 pub mod Determined
+pub mod TableLaws
+pub mod PlainLaws

@@ -28,7 +28,7 @@ inFigures k n = map asFigure (places 10 k n)
 abbrev pub capped : ℕ → ℕ → ℕ
 capped limit n = pick (ltb n limit) n limit
 
--- what at most two figures count, or at most three; 100 and 1,000 of any other word
+-- what figures count where that is below 100, or below 1,000; the limit itself otherwise, and for any other word
 abbrev pub twoOf : List ℕ → ℕ
 twoOf w = capped 100 (figuresOf w)
 

@@ -63,7 +63,7 @@ pub fn figures(w: &[u8]) -> u32
     n
 }
 
-// The same for at most two figures, with 100 for anything else.
+// The same where the figures count less than 100, and 100 for anything else.
 pub fn two(w: &[u8]) -> u8
     ensures { λ r. ⌜ r ≡ twoOf (now (w .entry)) ⌝ }
 {
@@ -71,7 +71,7 @@ pub fn two(w: &[u8]) -> u8
     if n < 100 { n as u8 } else { 100 }
 }
 
-// The same for at most three figures, with 1,000 for anything else.
+// The same where the figures count less than 1,000, and 1,000 for anything else.
 pub fn three(w: &[u8]) -> u16
     ensures { λ r. ⌜ r ≡ threeOf (now (w .entry)) ⌝ }
 {

@@ -1,7 +1,6 @@
 // Day, hour and minute: the six-digit group, `group/group` and `GGggZ`.
 ghost use mathlib.Core.Path.{_≡_};
 ghost use Rattle.groups.specs.Groups.{goodGroup, groupOf, goodPeriod, periodOf, goodTime, timeOf, onClock};
-
 use figures::two;
 use lists::both;
 
@@ -71,10 +70,7 @@ pub fn period_word(w: &[u8]) -> Period
         hour: 0,
         minute: 0,
     };
-    let none = Period {
-        from: day,
-        to: day,
-    };
+    let none = Period { from: day, to: day };
     if w.len() != 13 {
         return none;
     }

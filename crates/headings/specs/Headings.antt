@@ -28,7 +28,6 @@ typeOf w = numberIn 2 typeWords w
 abbrev pub goodType : ℕ → Bool
 goodType n = inNumbers 2 typeWords n
 
-
 -- "`WS` or `WV`, two letters, two digits, as one word"
 unfoldable pub goodDesignator : Designator → Bool
 goodDesignator d = both (goodType (d .kind)) (both (goodLetters 2 (d .region)) (leb (d .number) 99))

@@ -3,7 +3,6 @@ ghost use mathlib.Core.Path.{_≡_};
 ghost use Rattle.figures.specs.Letters.{goodLetters};
 ghost use Rattle.headings.specs.Headings.{goodType, typeOf, goodDesignator, designatorOf, goodCorrection, correctionOf, officeOf};
 ghost use Rattle.headings.specs.Sequences.{goodSequence, sequenceOf};
-
 use figures::code;
 use figures::is_letter;
 use figures::letters;

@@ -4,7 +4,6 @@ ghost use Prim.Native.Nat.{_≤_};
 ghost use lib.ListN.{length};
 ghost use Rattle.words.specs.Bytes.{between};
 ghost use Rattle.levels.specs.Levels.{goodBand, feetFigures, five, surfaceNine, bandNine, nine, tenEleven, levelOf, goodLevel, emptyLevel};
-
 use figures::code;
 use figures::figures;
 use lists::both;
@@ -68,7 +67,10 @@ fn surface_nine(w: &[u8]) -> Level
 fn good_band(low: u32, high: u32) -> bool
     ensures { λ r. ⌜ r ≡ goodBand low high ⌝ }
 {
-    both(is_between(1, 999, low), both(is_between(1, 999, high), low < high))
+    both(
+        is_between(1, 999, low),
+        both(is_between(1, 999, high), low < high),
+    )
 }
 
 fn band_nine(w: &[u8]) -> Level

@@ -25,12 +25,12 @@ use Rattle.message.specs.Words.{headingWords, lineWords, areaWords, test
 
 pub sample-good : good sample ≡ true
 unfolding
-  good sample goodHeading goodLine goodArea goodForm goodReport goodDesignator goodLetters goodGroup goodPeriod goodSequence goodName goodPhenomenon goodObservation goodPlace goodLevel goodEnding emptyVolcano emptyName emptyPoint emptyCoordinate emptySide goodBound goodSide goodCoordinate noPoints emptyPlace goodLevelWord goodSpeed unitWords intensityWords closingWords typeWords worthAfter places allOf nameText pieces nameWord indexOf same goodTime
+    good sample goodHeading goodLine goodArea goodForm goodReport goodDesignator goodLetters goodGroup goodPeriod goodSequence goodName goodPhenomenon goodObservation goodPlace goodLevel goodEnding emptyVolcano emptyName emptyPoint emptyCoordinate emptySide goodBound goodSide goodCoordinate noPoints emptyPlace goodLevelWord goodSpeed unitWords intensityWords closingWords typeWords worthAfter places allOf nameText pieces nameWord indexOf same goodTime
 sample-good = refl
 
 pub sample-text : textOf sample ≡ sampleText
 unfolding
-  textOf sample sampleText headingWords lineWords bodyWords areaWords formWords reportWords phenomenonWords observationWords placeWords levelWords endingWords spellDesignator spellGroup spellPeriod spellSequence spellTime spellLevelWord spellSpeed spellCoordinate boundWords emptySide emptyCoordinate phenomena compassWords intensityWords closingWords typeWords unitWords worthAfter places pieces line emptyName allOf
+    textOf sample sampleText headingWords lineWords bodyWords areaWords formWords reportWords phenomenonWords observationWords placeWords levelWords endingWords spellDesignator spellGroup spellPeriod spellSequence spellTime spellLevelWord spellSpeed spellCoordinate boundWords emptySide emptyCoordinate phenomena compassWords intensityWords closingWords typeWords unitWords worthAfter places pieces line emptyName allOf
 sample-text = refl
 
 pub sample-length : length sampleText ≡ 130

@@ -15,5 +15,5 @@ noRecord =
       line = record { unit = 0; sequence = noSequence; valid = noPeriod; office = 0 };
       area = record { indicator = 0; name = noName; closing = 0 };
       form = NoForm;
-      report = noReport
+      report = noReport;
     }

@@ -31,36 +31,36 @@ unfoldable pub sample : Record
 sample =
     record {
       heading =
-        record {
-          designator = record { kind = 2; region = worth 256 (bytes "ZZ"); number = 31 };
-          centre = worth 256 (bytes "QAAA");
-          time = dayAndTime 18 8 30;
-          correction = 0
-        };
+          record {
+            designator = record { kind = 2; region = worth 256 (bytes "ZZ"); number = 31 };
+            centre = worth 256 (bytes "QAAA");
+            time = dayAndTime 18 8 30;
+            correction = 0;
+          };
       line =
-        record {
-          unit = worth 256 (bytes "QBBB");
-          sequence = record { letter = 0; digits = 1; number = 1 };
-          valid = record { from = dayAndTime 18 8 30; to = dayAndTime 18 12 30 };
-          office = worth 256 (bytes "QAAA")
-        };
+          record {
+            unit = worth 256 (bytes "QBBB");
+            sequence = record { letter = 0; digits = 1; number = 1 };
+            valid = record { from = dayAndTime 18 8 30; to = dayAndTime 18 12 30 };
+            office = worth 256 (bytes "QAAA");
+          };
       area =
-        record {
-          indicator = worth 256 (bytes "QBBB");
-          name = record { bytes = bytes "NORTH SOUND" ++ replicate 39 0; count = 11 };
-          closing = 1
-        };
+          record {
+            indicator = worth 256 (bytes "QBBB");
+            name = record { bytes = bytes "NORTH SOUND" ++ replicate 39 0; count = 11 };
+            closing = 1;
+          };
       form = Reported;
       report =
-        record {
-          phenomenon = 10;
-          volcano = noVolcano;
-          observation = record { word = 2; timed = false; time = record { hour = 0; minute = 0 } };
-          place = record { location = Bounded (record { latitude = noSide; longitude = record { of = code "E"; at = E114 } }); points = replicate 7 noPoint };
-          level = SurfaceFlight 100;
-          ending = Moving 4 (record { value = 20; unit = 1 }) 2;
-          forecast = noPlace
-        }
+          record {
+            phenomenon = 10;
+            volcano = noVolcano;
+            observation = record { word = 2; timed = false; time = record { hour = 0; minute = 0 } };
+            place = record { location = Bounded (record { latitude = noSide; longitude = record { of = code "E"; at = E114 } }); points = replicate 7 noPoint };
+            level = SurfaceFlight 100;
+            ending = Moving 4 (record { value = 20; unit = 1 }) 2;
+            forecast = noPlace;
+          };
     }
 
 -- "Sample, 130 bytes with CR LF at the line ends"

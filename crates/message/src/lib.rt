@@ -1,13 +1,13 @@
 // The record of one SIGMET. Where a form does not use a place, the place is zero and a choice takes its empty case.
 use coordinates::Coordinate;
 use coordinates::Point;
-use headings::Designator;
 use groups::Group;
-use levels::Level;
 use groups::Period;
-use headings::Sequence;
-use motions::Speed;
 use groups::Time;
+use headings::Designator;
+use headings::Sequence;
+use levels::Level;
+use motions::Speed;
 
 // Letters are kept as one number, in base 256.
 pub struct Heading {

@@ -3,7 +3,6 @@ ghost use mathlib.Core.Path.{_≡_};
 ghost use Rattle.figures.specs.Tables.{numberIn};
 ghost use Rattle.motions.specs.Motions.{compassOf, intensityOf};
 ghost use Rattle.motions.specs.Speeds.{unitWords, goodSpeed, speedOf};
-
 use figures::code;
 use figures::find;
 use figures::two;
@@ -76,7 +75,10 @@ fn unit_of(w: &[u8]) -> u8
 pub fn good_speed(s: Speed) -> bool
     ensures { λ r. ⌜ r ≡ goodSpeed s ⌝ }
 {
-    both(both(1 <= s.value, s.value <= 99), both(1 <= s.unit, s.unit <= 2))
+    both(
+        both(1 <= s.value, s.value <= 99),
+        both(1 <= s.unit, s.unit <= 2),
+    )
 }
 
 // The speed that a word `nnKT` or `nnKMH` is, or all zero.

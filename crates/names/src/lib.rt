@@ -5,7 +5,6 @@ ghost use lib.Dec.{eqb};
 ghost use Prim.Native.Nat.{_≤_};
 ghost use Rattle.lists.specs.Lists.{allOf, indexFrom};
 ghost use Rattle.names.specs.Names.{nameByte, nameWord, closingOf, inName, nameText};
-
 use figures::code;
 use figures::is_letter;
 use lists::both;

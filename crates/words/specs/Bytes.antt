@@ -43,3 +43,7 @@ allowed x = either (letter x) (either (digit x) (either (blank x) (either (strok
 
 abbrev pub barred : ℕ → Bool
 barred x = not (allowed x)
+
+-- what a word may have: a byte that is allowed and neither blank nor `=`
+abbrev pub plain : ℕ → Bool
+plain x = both (allowed x) (both (solid x) (not (equals x)))

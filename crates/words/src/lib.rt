@@ -63,7 +63,7 @@ pub fn check(bulletin: &[u8]) -> Checked
     }
 }
 
-// The next word of the text from a place on: empty, at the text's length, where only blanks are left.
+// The next word of the text from a place on: empty, at the text's length, where only blanks are left (past the text, at the place).
 pub fn word_at(text: &[u8], place: usize) -> Span
     ensures { λ r. ⌜ r ≡ spanOf (now (text .entry)) place ⌝ }
 {

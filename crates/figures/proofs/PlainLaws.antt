@@ -1,0 +1,52 @@
+-- Figures and letters are bytes that a word may have: allowed, no blank and no `=`.
+-- Assumes nothing.
+use mathlib.Core.Bool.{true, false, not}
+use mathlib.Core.List.{List}
+use mathlib.Core.Path.{_≡_, refl, ap}
+use Prim.Native.Nat.{ℕ, _≤_, _<_}
+use native.Mathlib.Omega.{arith}
+use lib.Dec.{leb, eqb}
+use borrow.Author.Tests.{leb-true, ne-eqb}
+use Rattle.lists.specs.Choice.{both, either}
+use Rattle.lists.specs.Lists.{allOf}
+use Rattle.lists.proofs.Choice.{both-left, both-right, both-true, either-left, either-right}
+use Rattle.lists.proofs.Lists.{all-weaken}
+use Rattle.words.specs.Bytes.{letter, digit, blank, solid, stroke, bracket, equals, allowed, plain}
+use Rattle.figures.specs.Figures.{inFigures}
+use Rattle.figures.specs.Letters.{inLetters, goodLetters}
+use Rattle.figures.proofs.FigureLaws.{inFigures-digits}
+use Rattle.figures.proofs.LetterLaws.{inLetters-letters}
+
+-- an allowed byte above the space, other than `=`
+plain-above : (x : ℕ) → allowed x ≡ true → 32 < x → (x ≡ 61 → ⊥) → plain x ≡ true
+plain-above x a h e =
+    let space : eqb x 32 ≡ false = ne-eqb x 32 (λ q. omega arith) in
+    let cr : eqb x 13 ≡ false = ne-eqb x 13 (λ q. omega arith) in
+    let lf : eqb x 10 ≡ false = ne-eqb x 10 (λ q. omega arith) in
+    let other : eqb x 61 ≡ false = ne-eqb x 61 e in
+    rw (a, space, cr, lf, other)
+
+pub digit-plain : (x : ℕ) → digit x ≡ true → plain x ≡ true
+unfolding allowed
+digit-plain x d =
+    let low : 48 ≤ x = leb-true 48 x (both-left (leb 48 x) (leb x 57) d) in
+    let high : x ≤ 57 = leb-true x 57 (both-right (leb 48 x) (leb x 57) d) in
+    plain-above x (either-right (letter x) (either-left (either (blank x) (either (stroke x) (either (bracket x) (equals x)))) d)) (omega arith) (λ q. omega arith)
+
+pub letter-plain : (x : ℕ) → letter x ≡ true → plain x ≡ true
+unfolding allowed
+letter-plain x l =
+    let low : 65 ≤ x = leb-true 65 x (both-left (leb 65 x) (leb x 90) l) in
+    plain-above x (either-left (either (digit x) (either (blank x) (either (stroke x) (either (bracket x) (equals x))))) l) (omega arith) (λ q. omega arith)
+
+pub digits-plain : (w : List ℕ) → allOf digit w ≡ true → allOf plain w ≡ true
+digits-plain w t = all-weaken digit plain digit-plain w t
+
+pub letters-plain : (w : List ℕ) → allOf letter w ≡ true → allOf plain w ≡ true
+letters-plain w t = all-weaken letter plain letter-plain w t
+
+pub inFigures-plain : (k n : ℕ) → allOf plain (inFigures k n) ≡ true
+inFigures-plain k n = digits-plain (inFigures k n) (inFigures-digits k n)
+
+pub inLetters-plain : (k n : ℕ) → goodLetters k n ≡ true → allOf plain (inLetters k n) ≡ true
+inLetters-plain k n g = letters-plain (inLetters k n) (inLetters-letters k n g)
