@@ -22,6 +22,7 @@ use Rattle.message.specs.declared.Form.{Form}
 use Rattle.message.specs.declared.Form.the-variants.{NoForm, Test, Cancellation, Reported}
 use Rattle.message.specs.declared.Heading.{Heading}
 use Rattle.message.specs.declared.Record.{Record}
+use Rattle.message.specs.declared.Report.{Report}
 
 -- "Heading: `WS` or `WV`, two letters, two digits, as one word; four letters (centre); day, hour, minute in six digits; then perhaps a
 -- correction"
@@ -48,13 +49,18 @@ sameGroup g h = both (eqb (g .day) (h .day)) (both (eqb (g .hour) (h .hour)) (eq
 unfoldable pub namesItself : FirstLine → Sequence → Group → Bool
 namesItself l s from = both (sameSequence s (l .sequence)) (sameGroup from (l .valid .from))
 
--- "Then one of: a test …; a cancellation …; a report …"
-unfoldable pub goodForm : Record → Form → Bool
-goodForm r NoForm = false
-goodForm r (Test n) = both (between 1 3 n) (emptyReport (r .report))
-goodForm r (Cancellation s from) =
-    both (both (goodSequence s) (both (goodGroup from) (not (namesItself (r .line) s from)))) (emptyReport (r .report))
-goodForm r Reported = goodReport (r .heading .designator .kind) (r .report)
+-- "a cancellation: `CNL SIGMET`, a sequence, `group/group`. …"
+abbrev pub goodCancellation : FirstLine → Sequence → Group → Bool
+goodCancellation l s from = both (goodSequence s) (both (goodGroup from) (not (namesItself l s from)))
+
+-- "Then one of: a test …; a cancellation …; a report …": the form, in a bulletin of that kind with that first line
+unfoldable pub goodForm : ℕ → FirstLine → Report → Form → Bool
+goodForm kind l report NoForm = false
+goodForm kind l report (Test n) = both (between 1 3 n) (emptyReport report)
+goodForm kind l report (Cancellation s from) = both (goodCancellation l s from) (emptyReport report)
+goodForm kind l report Reported = goodReport kind report
 
 unfoldable pub good : Record → Bool
-good r = both (goodHeading (r .heading)) (both (goodLine (r .line)) (both (goodArea (r .area)) (goodForm r (r .form))))
+good r =
+    both (goodHeading (r .heading))
+    (both (goodLine (r .line)) (both (goodArea (r .area)) (goodForm (r .heading .designator .kind) (r .line) (r .report) (r .form))))

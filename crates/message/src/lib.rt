@@ -1,12 +1,29 @@
 // The record of one SIGMET. Where a form does not use a place, the place is zero and a choice takes its empty case.
+ghost use mathlib.Core.Path.{_≡_};
+ghost use Rattle.message.specs.Empty.{noRecord};
+ghost use Rattle.message.specs.Records.{goodHeading, goodLine, goodArea, sameSequence, sameGroup, namesItself, goodCancellation, goodForm, good};
+
+mod name;
+mod place;
+mod report;
+
 use coordinates::Coordinate;
 use coordinates::Point;
+use groups::good_group;
+use groups::good_period;
 use groups::Group;
 use groups::Period;
 use groups::Time;
 use headings::Designator;
 use headings::Sequence;
+use headings::four_letters;
+use headings::good_correction;
+use headings::good_designator;
+use headings::good_sequence;
+use headings::Sequence;
 use levels::Level;
+use lists::both;
+use lists::either;
 use motions::Speed;
 
 // Letters are kept as one number, in base 256.
@@ -108,4 +125,137 @@ pub struct Record {
     pub area: Area,
     pub form: Form,
     pub report: Report,
+}
+
+// The empty record, all zero, that goes with every refusal.
+pub fn empty() -> Record
+    ensures { λ r. ⌜ r ≡ noRecord ⌝ }
+{
+    let group = Group {
+        day: 0,
+        hour: 0,
+        minute: 0,
+    };
+    let designator = Designator {
+        kind: 0,
+        region: 0,
+        number: 0,
+    };
+    let heading = Heading {
+        designator,
+        centre: 0,
+        time: group,
+        correction: 0,
+    };
+    let sequence = Sequence {
+        letter: 0,
+        digits: 0,
+        number: 0,
+    };
+    let valid = Period {
+        from: group,
+        to: group,
+    };
+    let line = FirstLine {
+        unit: 0,
+        sequence,
+        valid,
+        office: 0,
+    };
+    let name = name::none();
+    let area = Area {
+        indicator: 0,
+        name,
+        closing: 0,
+    };
+    let report = report::none();
+    Record {
+        heading,
+        line,
+        area,
+        form: Form::NoForm,
+        report,
+    }
+}
+
+fn good_heading(h: Heading) -> bool
+    ensures { λ r. ⌜ r ≡ goodHeading h ⌝ }
+{
+    let designator = h.designator;
+    let time = h.time;
+    let correction = either(h.correction == 0, good_correction(h.correction));
+    both(
+        good_designator(designator),
+        both(four_letters(h.centre), both(good_group(time), correction)),
+    )
+}
+
+fn good_line(l: FirstLine) -> bool
+    ensures { λ r. ⌜ r ≡ goodLine l ⌝ }
+{
+    let sequence = l.sequence;
+    let valid = l.valid;
+    let office = both(good_period(valid), four_letters(l.office));
+    both(four_letters(l.unit), both(good_sequence(sequence), office))
+}
+
+fn good_area(a: Area) -> bool
+    ensures { λ r. ⌜ r ≡ goodArea a ⌝ }
+{
+    let name = a.name;
+    let closing = both(1 <= a.closing, a.closing <= 3);
+    both(four_letters(a.indicator), both(name::good(name, false, 50), closing))
+}
+
+fn same_sequence(s: Sequence, t: Sequence) -> bool
+    ensures { λ r. ⌜ r ≡ sameSequence s t ⌝ }
+{
+    both(s.letter == t.letter, both(s.digits == t.digits, s.number == t.number))
+}
+
+fn same_group(g: Group, h: Group) -> bool
+    ensures { λ r. ⌜ r ≡ sameGroup g h ⌝ }
+{
+    both(g.day == h.day, both(g.hour == h.hour, g.minute == h.minute))
+}
+
+fn names_itself(l: FirstLine, s: Sequence, from: Group) -> bool
+    ensures { λ r. ⌜ r ≡ namesItself l s from ⌝ }
+{
+    let sequence = l.sequence;
+    let valid = l.valid;
+    let start = valid.from;
+    both(same_sequence(s, sequence), same_group(from, start))
+}
+
+fn good_cancellation(l: FirstLine, s: Sequence, from: Group) -> bool
+    ensures { λ r. ⌜ r ≡ goodCancellation l s from ⌝ }
+{
+    let itself = names_itself(l, s, from);
+    both(good_sequence(s), both(good_group(from), !itself))
+}
+
+fn good_form(form: Form, kind: u8, l: FirstLine, report: Report) -> bool
+    ensures { λ r. ⌜ r ≡ goodForm kind l report form ⌝ }
+{
+    match form {
+        Form::NoForm => false,
+        Form::Test(n) => both(both(1 <= n, n <= 3), report::is_empty(report)),
+        Form::Cancellation(s, from) => both(good_cancellation(l, s, from), report::is_empty(report)),
+        Form::Reported => report::good(kind, report),
+    }
+}
+
+// Is it a good record? Every other is a bad one.
+pub fn is_good(r: Record) -> bool
+    ensures { λ g. ⌜ g ≡ good r ⌝ }
+{
+    let heading = r.heading;
+    let line = r.line;
+    let area = r.area;
+    let form = r.form;
+    let report = r.report;
+    let designator = heading.designator;
+    let body = good_form(form, designator.kind, line, report);
+    both(good_heading(heading), both(good_line(line), both(good_area(area), body)))
 }

@@ -1,0 +1,57 @@
+// A name in a record.
+ghost use mathlib.Core.Path.{_≡_};
+ghost use Prim.Native.Nat.{_≤_};
+ghost use Rattle.lists.specs.Lists.{allOf};
+ghost use Rattle.message.specs.Names.{zeroByte, goodName, emptyName, noName};
+
+use crate::Name;
+use lists::both;
+use names::name_text;
+
+pub(crate) fn none() -> Name
+    ensures { λ r. ⌜ r ≡ noName ⌝ }
+{
+    Name {
+        bytes: [0; 50],
+        count: 0,
+    }
+}
+
+fn all_zero(b: &[u8]) -> bool
+    ensures { λ r. ⌜ r ≡ allOf zeroByte (now (b .entry)) ⌝ }
+{
+    let mut i = 0;
+    while i < b.len() {
+        if b[i] != 0 {
+            return false;
+        }
+        i += 1;
+    }
+    true
+}
+
+pub(crate) fn good(n: Name, mountain: bool, limit: usize) -> bool
+    requires { ⌜ limit ≤ 50 ⌝ }
+    ensures { λ r. ⌜ r ≡ goodName mountain limit n ⌝ }
+{
+    let count = n.count;
+    if count < 1 {
+        return false;
+    }
+    if limit < count {
+        return false;
+    }
+    let b = n.bytes;
+    let unused = all_zero(&b[count..]);
+    both(unused, name_text(&b[..count], mountain))
+}
+
+pub(crate) fn is_empty(n: Name) -> bool
+    ensures { λ r. ⌜ r ≡ emptyName n ⌝ }
+{
+    if n.count != 0 {
+        return false;
+    }
+    let b = n.bytes;
+    all_zero(&b[..])
+}

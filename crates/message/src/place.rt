@@ -1,0 +1,172 @@
+// A location with the points of its outline.
+ghost use mathlib.Core.Path.{_≡_};
+ghost use Prim.Native.Nat.{_≤_};
+ghost use lib.ListN.{take, drop};
+ghost use Rattle.lists.specs.Lists.{allOf};
+ghost use Rattle.coordinates.specs.Coordinates.{northSouth, eastWest};
+ghost use Rattle.coordinates.specs.Points.{goodPoint, emptyPoint, noPoint};
+ghost use Rattle.message.specs.Places.{goodSide, emptySide, goodBound, noPoints, closingPoint, goodOutline, goodPlace, emptyPlace, noPlace};
+
+use crate::Bound;
+use crate::Location;
+use crate::Place;
+use crate::Side;
+use coordinates::Coordinate;
+use coordinates::Point;
+use coordinates::empty_coordinate;
+use coordinates::empty_point;
+use coordinates::good_latitude;
+use coordinates::good_longitude;
+use coordinates::good_point;
+use coordinates::same_point;
+use lists::both;
+use lists::either;
+
+pub(crate) fn no_point() -> Point
+    ensures { λ r. ⌜ r ≡ noPoint ⌝ }
+{
+    let none = Coordinate {
+        letter: 0,
+        digits: 0,
+        degrees: 0,
+        minutes: 0,
+    };
+    Point {
+        latitude: none,
+        longitude: none,
+    }
+}
+
+pub(crate) fn none() -> Place
+    ensures { λ r. ⌜ r ≡ noPlace ⌝ }
+{
+    let p = no_point();
+    Place {
+        location: Location::Nowhere,
+        points: [p; 7],
+    }
+}
+
+fn good_latitude_side(s: Side) -> bool
+    ensures { λ r. ⌜ r ≡ goodSide northSouth s ⌝ }
+{
+    let at = s.at;
+    both(either(s.of == 78, s.of == 83), good_latitude(at))
+}
+
+fn good_longitude_side(s: Side) -> bool
+    ensures { λ r. ⌜ r ≡ goodSide eastWest s ⌝ }
+{
+    let at = s.at;
+    both(either(s.of == 69, s.of == 87), good_longitude(at))
+}
+
+fn empty_side(s: Side) -> bool
+    ensures { λ r. ⌜ r ≡ emptySide s ⌝ }
+{
+    let at = s.at;
+    both(s.of == 0, empty_coordinate(at))
+}
+
+fn good_bound(b: Bound) -> bool
+    ensures { λ r. ⌜ r ≡ goodBound b ⌝ }
+{
+    let north = b.latitude;
+    let east = b.longitude;
+    if empty_side(north) {
+        return good_longitude_side(east);
+    }
+    let other = either(empty_side(east), good_longitude_side(east));
+    both(good_latitude_side(north), other)
+}
+
+// The points from a place on are all empty.
+fn empty_from(points: [Point; 7], start: usize) -> bool
+    ensures { λ r. ⌜ r ≡ allOf emptyPoint (drop start points) ⌝ }
+{
+    let mut i = start;
+    while i < 7 {
+        if !empty_point(points[i]) {
+            return false;
+        }
+        i += 1;
+    }
+    true
+}
+
+// The first n points are all good.
+fn good_until(points: [Point; 7], n: usize) -> bool
+    requires { ⌜ n ≤ 7 ⌝ }
+    ensures { λ r. ⌜ r ≡ allOf goodPoint (take n points) ⌝ }
+{
+    let mut i = 0;
+    while i < n {
+        if !good_point(points[i]) {
+            return false;
+        }
+        i += 1;
+    }
+    true
+}
+
+// The place of the first later point that is the same as the first.
+fn closing_point(points: [Point; 7]) -> usize
+    ensures { λ r. ⌜ r ≡ closingPoint points ⌝ }
+{
+    let first = points[0];
+    let mut i = 1;
+    while i < 7 {
+        if same_point(first, points[i]) {
+            return i;
+        }
+        i += 1;
+    }
+    i
+}
+
+fn no_points(points: [Point; 7]) -> bool
+    ensures { λ r. ⌜ r ≡ noPoints points ⌝ }
+{
+    empty_from(points, 0)
+}
+
+fn good_outline(n: u8, points: [Point; 7]) -> bool
+    ensures { λ r. ⌜ r ≡ goodOutline n points ⌝ }
+{
+    if n < 4 {
+        return false;
+    }
+    if 7 < n {
+        return false;
+    }
+    let count = n as usize;
+    let written = good_until(points, count);
+    let closed = closing_point(points) == count - 1;
+    both(written, both(closed, empty_from(points, count)))
+}
+
+pub(crate) fn good(p: Place) -> bool
+    ensures { λ r. ⌜ r ≡ goodPlace p ⌝ }
+{
+    let location = p.location;
+    let points = p.points;
+    match location {
+        Location::Nowhere => false,
+        Location::Bounded(b) => both(good_bound(b), no_points(points)),
+        Location::Outline(n) => good_outline(n, points),
+        Location::Entire => no_points(points),
+    }
+}
+
+pub(crate) fn is_empty(p: Place) -> bool
+    ensures { λ r. ⌜ r ≡ emptyPlace p ⌝ }
+{
+    let location = p.location;
+    let points = p.points;
+    match location {
+        Location::Nowhere => no_points(points),
+        Location::Bounded(_) => false,
+        Location::Outline(_) => false,
+        Location::Entire => false,
+    }
+}
