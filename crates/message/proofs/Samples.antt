@@ -25,7 +25,7 @@ use Rattle.message.specs.Words.{headingWords, lineWords, areaWords, test
 
 pub sample-good : good sample ≡ true
 unfolding
-    good sample goodHeading goodLine goodArea goodForm goodReport goodDesignator goodLetters goodGroup goodPeriod goodSequence goodName goodPhenomenon goodObservation goodPlace goodLevel goodEnding emptyVolcano emptyName emptyPoint emptyCoordinate emptySide goodBound goodSide goodCoordinate noPoints emptyPlace goodLevelWord goodSpeed unitWords intensityWords closingWords typeWords worthAfter places allOf nameText pieces nameWord indexOf same goodTime
+    good sample goodHeading goodLine goodArea goodForm goodReport goodDesignator goodLetters goodGroup goodPeriod goodSequence goodName goodPhenomenon goodObservation goodPlace goodLevel goodEnding emptyVolcano emptyName emptyPoint emptyCoordinate emptySide goodBound goodSide goodCoordinate noPoints emptyPlace goodLevelWord goodSpeed unitWords intensityWords closingWords typeWords worthAfter places allOf nameText pieces nameWord indexOf same goodTime compassWords
 sample-good = refl
 
 pub sample-text : textOf sample ≡ sampleText

@@ -3,9 +3,9 @@ ghost use mathlib.Core.Path.{_≡_};
 ghost use Rattle.message.specs.Empty.{noRecord};
 ghost use Rattle.message.specs.Records.{goodHeading, goodLine, goodArea, sameSequence, sameGroup, namesItself, goodCancellation, goodForm, good};
 
-mod name;
-mod place;
-mod report;
+mod naming;
+mod placing;
+mod reporting;
 
 use coordinates::Coordinate;
 use coordinates::Point;
@@ -20,7 +20,6 @@ use headings::four_letters;
 use headings::good_correction;
 use headings::good_designator;
 use headings::good_sequence;
-use headings::Sequence;
 use levels::Level;
 use lists::both;
 use lists::either;
@@ -162,13 +161,13 @@ pub fn empty() -> Record
         valid,
         office: 0,
     };
-    let name = name::none();
+    let name = naming::none();
     let area = Area {
         indicator: 0,
         name,
         closing: 0,
     };
-    let report = report::none();
+    let report = reporting::none();
     Record {
         heading,
         line,
@@ -204,7 +203,7 @@ fn good_area(a: Area) -> bool
 {
     let name = a.name;
     let closing = both(1 <= a.closing, a.closing <= 3);
-    both(four_letters(a.indicator), both(name::good(name, false, 50), closing))
+    both(four_letters(a.indicator), both(naming::good(name, false, 50), closing))
 }
 
 fn same_sequence(s: Sequence, t: Sequence) -> bool
@@ -240,9 +239,9 @@ fn good_form(form: Form, kind: u8, l: FirstLine, report: Report) -> bool
 {
     match form {
         Form::NoForm => false,
-        Form::Test(n) => both(both(1 <= n, n <= 3), report::is_empty(report)),
-        Form::Cancellation(s, from) => both(good_cancellation(l, s, from), report::is_empty(report)),
-        Form::Reported => report::good(kind, report),
+        Form::Test(n) => both(both(1 <= n, n <= 3), reporting::is_empty(report)),
+        Form::Cancellation(s, from) => both(good_cancellation(l, s, from), reporting::is_empty(report)),
+        Form::Reported => reporting::good(kind, report),
     }
 }
 

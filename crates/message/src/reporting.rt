@@ -8,8 +8,8 @@ use crate::Observation;
 use crate::Place;
 use crate::Report;
 use crate::Volcano;
-use crate::name;
-use crate::place;
+use crate::naming;
+use crate::placing;
 use coordinates::empty_point;
 use coordinates::good_point;
 use groups::Time;
@@ -24,8 +24,8 @@ use motions::good_speed;
 pub(crate) fn none() -> Report
     ensures { λ r. ⌜ r ≡ noReport ⌝ }
 {
-    let mount = name::none();
-    let position = place::no_point();
+    let mount = naming::none();
+    let position = placing::no_point();
     let volcano = Volcano {
         name: mount,
         position,
@@ -39,7 +39,7 @@ pub(crate) fn none() -> Report
         timed: false,
         time,
     };
-    let nowhere = place::none();
+    let nowhere = placing::none();
     Report {
         phenomenon: 0,
         volcano,
@@ -56,7 +56,7 @@ fn good_volcano(v: Volcano) -> bool
 {
     let mount = v.name;
     let position = v.position;
-    let named = either(name::is_empty(mount), name::good(mount, true, 30));
+    let named = either(naming::is_empty(mount), naming::good(mount, true, 30));
     both(named, good_point(position))
 }
 
@@ -65,7 +65,7 @@ fn empty_volcano(v: Volcano) -> bool
 {
     let mount = v.name;
     let position = v.position;
-    both(name::is_empty(mount), empty_point(position))
+    both(naming::is_empty(mount), empty_point(position))
 }
 
 fn good_phenomenon(kind: u8, n: u8, v: Volcano) -> bool
@@ -112,10 +112,10 @@ fn good_ending(kind: u8, e: Ending, f: Place) -> bool
         Ending::NoEnding => false,
         Ending::Moving(point, s, n) => both(
             both(point < 16, both(good_speed(s), good_intensity(n))),
-            place::is_empty(f),
+            placing::is_empty(f),
         ),
-        Ending::Stationary(n) => both(good_intensity(n), place::is_empty(f)),
-        Ending::Forecast(n) => both(both(kind == 2, good_intensity(n)), place::good(f)),
+        Ending::Stationary(n) => both(good_intensity(n), placing::is_empty(f)),
+        Ending::Forecast(n) => both(both(kind == 2, good_intensity(n)), placing::good(f)),
     }
 }
 
@@ -135,7 +135,7 @@ pub(crate) fn good(kind: u8, r: Report) -> bool
     let ending = r.ending;
     let forecast = r.forecast;
     let end = both(good_level(level), good_ending(kind, ending, forecast));
-    let middle = both(good_observation(observation), both(place::good(place), end));
+    let middle = both(good_observation(observation), both(placing::good(place), end));
     both(good_phenomenon(kind, r.phenomenon, volcano), middle)
 }
 
@@ -149,6 +149,6 @@ pub(crate) fn is_empty(r: Report) -> bool
     let ending = r.ending;
     let forecast = r.forecast;
     let phenomenon = both(r.phenomenon == 0, empty_volcano(volcano));
-    let end = both(empty_level(level), both(empty_ending(ending), place::is_empty(forecast)));
-    both(phenomenon, both(empty_observation(observation), both(place::is_empty(place), end)))
+    let end = both(empty_level(level), both(empty_ending(ending), placing::is_empty(forecast)));
+    both(phenomenon, both(empty_observation(observation), both(placing::is_empty(place), end)))
 }

@@ -1,0 +1,77 @@
+use borrow.Author.Needs.{needs}
+use mathlib.Core.Path.{_≡_}
+use borrow.Author.Tests.{lt-leb, le-leb}
+use lib.ListN.{length}
+use Rattle.message.specs.Places.{goodOutline}
+use Rattle.message.proofs.placing.good_outline.Statement.{statement}
+use Rattle.message.proofs.placing.good_outline.Tie as tie
+use Rattle.message.proofs.placing.good_outline.Reads as reads
+use Rattle.message.proofs.placing.good_outline.Lts as lts
+use Rattle.lists.proofs.both.Reads as both-reads
+use Rattle.message.proofs.placing.closing_point.Reads as closing-point-reads
+use Rattle.message.proofs.placing.empty_from.Reads as empty-from-reads
+use Rattle.message.proofs.placing.good_until.Reads as good-until-reads
+
+-- src/placing.rt:137:9
+returns : tie.Need-returns
+unfolding goodOutline
+returns c = rw (lt-leb 4 (c .before .args .n) (c .if1 .taken))
+
+-- src/placing.rt:140:9
+returns-2 : tie.Need-returns-2
+unfolding goodOutline
+returns-2 c = rw (le-leb 4 (c .before .before .args .n) (c .before .if1 .left), lt-leb (c .before .before .args .n) 7 (c .if2 .taken))
+
+-- src/placing.rt:143:9
+good-until-requires : tie.Need-good-until-requires
+good-until-requires c κs = search needs
+
+-- src/placing.rt:144:18
+closing-point-requires : tie.Need-closing-point-requires
+closing-point-requires c κs = search needs
+
+-- src/placing.rt:144:43
+sub-closed : tie.Need-sub-closed
+sub-closed c = search needs
+
+-- src/placing.rt:145:32
+empty-from-requires : tie.Need-empty-from-requires
+empty-from-requires c κs = search needs
+
+-- src/placing.rt:145:19
+both-requires : tie.Need-both-requires
+both-requires c κs = search needs
+
+-- src/placing.rt:145:5
+both-requires-2 : tie.Need-both-requires-2
+both-requires-2 c κs = search needs
+
+-- src/placing.rt:133:1
+returns-3 : tie.Need-returns-3
+unfolding goodOutline
+returns-3 c = 
+    let a = c .before .before .before .before .before .before .before .args in
+    let long : length (a .points) ≡ 7 = search needs in
+    rw
+    (c .both2 .ensures,
+    c .before .both .ensures,
+    c .before .before .empty-from .ensures,
+    c .before .before .before .closing-point .ensures,
+    c .before .before .before .before .good-until .ensures,
+    le-leb 4 (a .n) (c .before .before .before .before .before .before .if1 .left),
+    le-leb (a .n) 7 (c .before .before .before .before .before .if2 .left),
+    long)
+
+pub good-outline-spec : {M : Type 1} → statement M
+good-outline-spec =
+    tie.close
+    (tie.spec
+    returns
+    returns-2
+    good-until-requires
+    closing-point-requires
+    sub-closed
+    empty-from-requires
+    both-requires
+    both-requires-2
+    returns-3)
