@@ -1,7 +1,8 @@
 // One reader and one judgement for both axes.
 ghost use mathlib.Core.Path.{_≡_};
 ghost use Prim.Native.Nat.{_≤_};
-ghost use Rattle.coordinates.specs.Coordinates.{coordinateOf, goodCoordinate, written, counted};
+ghost use Rattle.lists.specs.Choice.{pick};
+ghost use Rattle.coordinates.specs.Coordinates.{coordinateOf, goodCoordinate, noCoordinate, written, counted};
 use crate::Coordinate;
 use figures::three;
 use figures::two;
@@ -31,7 +32,9 @@ pub fn good(c: Coordinate, width: u8, greatest: u16, plus: u8, minus: u8) -> boo
     both(is_written(c, width, plus, minus), is_counted(c, greatest))
 }
 
-fn keep(c: Coordinate, good: bool) -> Coordinate {
+fn keep(c: Coordinate, good: bool) -> Coordinate
+    ensures { λ r. ⌜ r ≡ pick good c noCoordinate ⌝ }
+{
     if good {
         c
     } else {

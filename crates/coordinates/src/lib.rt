@@ -1,8 +1,9 @@
 // Latitudes, longitudes and points: read from a word, judged, and valued in signed minutes.
 ghost use mathlib.Core.Path.{_≡_};
 ghost use Rattle.coordinates.specs.Coordinates.{northSouth, eastWest, coordinateOf, goodCoordinate, emptyCoordinate, signedOf};
-ghost use Rattle.coordinates.specs.Points.{samePoint, goodPoint, emptyPoint};
+ghost use Rattle.coordinates.specs.Points.{apart, samePoint, goodPoint, emptyPoint};
 use lists::both;
+use lists::either;
 
 mod axis;
 
@@ -58,33 +59,33 @@ pub fn empty_coordinate(c: Coordinate) -> bool
 pub fn signed(c: Coordinate) -> i32
     ensures { λ r. ⌜ r ≡ signedOf c ⌝ }
 {
-    let size = c.degrees as i32 * 60 + c.minutes as i32;
-    let letter = c.letter;
-    if letter == 83 {
-        return 0 - size;
+    let size = (c.degrees as u32 * 60 + c.minutes as u32) as i32;
+    if either(c.letter == 83, c.letter == 87) {
+        0 - size
+    } else {
+        size
     }
-    if letter == 87 {
-        return 0 - size;
+}
+
+// How many minutes lie between two coordinates of one axis.
+fn apart_by(c: Coordinate, d: Coordinate) -> u32
+    ensures { λ r. ⌜ r ≡ apart (signedOf c) (signedOf d) ⌝ }
+{
+    let far = signed(c) - signed(d);
+    if far < 0 {
+        (0 - far) as u32
+    } else {
+        far as u32
     }
-    size
 }
 
 // The same place on the globe: E180 and W180 are one meridian.
 pub fn same_point(p: Point, q: Point) -> bool
     ensures { λ r. ⌜ r ≡ samePoint p q ⌝ }
 {
-    let north = signed(p.latitude) - signed(q.latitude);
-    if north != 0 {
-        return false;
-    }
-    let east = signed(p.longitude) - signed(q.longitude);
-    if east == 0 {
-        return true;
-    }
-    if east == 21600 {
-        return true;
-    }
-    east == 0 - 21600
+    let north = apart_by(p.latitude, q.latitude);
+    let east = apart_by(p.longitude, q.longitude);
+    both(north == 0, either(east == 0, east == 21600))
 }
 
 pub fn good_point(p: Point) -> bool

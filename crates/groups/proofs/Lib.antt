@@ -1,0 +1,4 @@
+pub mod Parts
+pub mod Kept
+pub mod GroupLaws
+pub mod Determined

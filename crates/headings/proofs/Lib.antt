@@ -1,0 +1,5 @@
+pub mod Parts
+pub mod Kept
+pub mod HeadingLaws
+pub mod SequenceLaws
+pub mod Determined

@@ -1,5 +1,8 @@
 // The words of heading and first line that have a shape of their own: designator, correction, office and sequence.
 ghost use mathlib.Core.Path.{_≡_};
+ghost use Prim.Native.Nat.{_^_};
+ghost use Rattle.lists.specs.Choice.{pick};
+ghost use Rattle.words.specs.Bytes.{between};
 ghost use Rattle.figures.specs.Letters.{goodLetters};
 ghost use Rattle.headings.specs.Headings.{goodType, typeOf, goodDesignator, designatorOf, goodCorrection, correctionOf, officeOf};
 ghost use Rattle.headings.specs.Sequences.{goodSequence, sequenceOf};
@@ -125,8 +128,10 @@ pub fn office_word(w: &[u8]) -> u32
     letters(&w[0..4], 4)
 }
 
-// One more than the greatest number of so many digits; 1 beyond three digits.
-fn ten_to(digits: u8) -> u16 {
+// One more than the greatest number of so many digits, 1 to 3; else 1.
+fn ten_to(digits: u8) -> u16
+    ensures { λ r. ⌜ r ≡ pick (between 1 3 digits) (10 ^ digits) 1 ⌝ }
+{
     match digits {
         1 => 10,
         2 => 100,

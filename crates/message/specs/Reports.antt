@@ -1,6 +1,6 @@
 -- 01, "a report: phenomenon, observation, location, level, then the ending."
 -- Assumes nothing.
-use mathlib.Core.Bool.{Bool, true, false}
+use mathlib.Core.Bool.{Bool, true, false, not}
 use mathlib.Core.List.{List, [], _∷_, _++_}
 use Prim.Native.Nat.{ℕ, _-_}
 use lib.Dec.{leb, eqb}
@@ -79,12 +79,8 @@ unfoldable pub goodObservation : Observation → Bool
 goodObservation o =
     both (between 1 2 (o .word)) (pick (o .timed) (goodTime (o .time)) (both (eqb (o .time .hour) 0) (eqb (o .time .minute) 0)))
 
-abbrev pub notTrue : Bool → Bool
-notTrue true = false
-notTrue false = true
-
 unfoldable pub emptyObservation : Observation → Bool
-emptyObservation o = both (eqb (o .word) 0) (both (notTrue (o .timed)) (both (eqb (o .time .hour) 0) (eqb (o .time .minute) 0)))
+emptyObservation o = both (not (o .timed)) (both (eqb (o .word) 0) (both (eqb (o .time .hour) 0) (eqb (o .time .minute) 0)))
 
 abbrev pub noObservation : Observation
 noObservation = record { word = 0; timed = false; time = record { hour = 0; minute = 0 } }

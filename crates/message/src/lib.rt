@@ -9,11 +9,11 @@ mod reporting;
 
 use coordinates::Coordinate;
 use coordinates::Point;
-use groups::good_group;
-use groups::good_period;
 use groups::Group;
 use groups::Period;
 use groups::Time;
+use groups::good_group;
+use groups::good_period;
 use headings::Designator;
 use headings::Sequence;
 use headings::four_letters;
@@ -203,13 +203,19 @@ fn good_area(a: Area) -> bool
 {
     let name = a.name;
     let closing = both(1 <= a.closing, a.closing <= 3);
-    both(four_letters(a.indicator), both(naming::good(name, false, 50), closing))
+    both(
+        four_letters(a.indicator),
+        both(naming::good(name, false, 50), closing),
+    )
 }
 
 fn same_sequence(s: Sequence, t: Sequence) -> bool
     ensures { λ r. ⌜ r ≡ sameSequence s t ⌝ }
 {
-    both(s.letter == t.letter, both(s.digits == t.digits, s.number == t.number))
+    both(
+        s.letter == t.letter,
+        both(s.digits == t.digits, s.number == t.number),
+    )
 }
 
 fn same_group(g: Group, h: Group) -> bool
@@ -240,7 +246,10 @@ fn good_form(form: Form, kind: u8, l: FirstLine, report: Report) -> bool
     match form {
         Form::NoForm => false,
         Form::Test(n) => both(both(1 <= n, n <= 3), reporting::is_empty(report)),
-        Form::Cancellation(s, from) => both(good_cancellation(l, s, from), reporting::is_empty(report)),
+        Form::Cancellation(s, from) => both(
+            good_cancellation(l, s, from),
+            reporting::is_empty(report),
+        ),
         Form::Reported => reporting::good(kind, report),
     }
 }
@@ -256,5 +265,8 @@ pub fn is_good(r: Record) -> bool
     let report = r.report;
     let designator = heading.designator;
     let body = good_form(form, designator.kind, line, report);
-    both(good_heading(heading), both(good_line(line), both(good_area(area), body)))
+    both(
+        good_heading(heading),
+        both(good_line(line), both(good_area(area), body)),
+    )
 }

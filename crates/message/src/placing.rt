@@ -6,7 +6,6 @@ ghost use Rattle.lists.specs.Lists.{allOf};
 ghost use Rattle.coordinates.specs.Coordinates.{northSouth, eastWest};
 ghost use Rattle.coordinates.specs.Points.{goodPoint, emptyPoint, noPoint};
 ghost use Rattle.message.specs.Places.{goodSide, emptySide, goodBound, noPoints, closingPoint, goodOutline, goodPlace, emptyPlace, noPlace};
-
 use crate::Bound;
 use crate::Location;
 use crate::Place;

@@ -2,7 +2,6 @@
 ghost use mathlib.Core.Path.{_≡_};
 ghost use Rattle.motions.specs.Motions.{goodIntensity};
 ghost use Rattle.message.specs.Reports.{goodVolcano, emptyVolcano, goodPhenomenon, goodObservation, emptyObservation, goodEnding, emptyEnding, goodReport, emptyReport, noReport};
-
 use crate::Ending;
 use crate::Observation;
 use crate::Place;
@@ -30,10 +29,7 @@ pub(crate) fn none() -> Report
         name: mount,
         position,
     };
-    let time = Time {
-        hour: 0,
-        minute: 0,
-    };
+    let time = Time { hour: 0, minute: 0 };
     let observation = Observation {
         word: 0,
         timed: false,
@@ -122,7 +118,12 @@ fn good_ending(kind: u8, e: Ending, f: Place) -> bool
 fn empty_ending(e: Ending) -> bool
     ensures { λ r. ⌜ r ≡ emptyEnding e ⌝ }
 {
-    if let Ending::NoEnding = e { true } else { false }
+    match e {
+        Ending::NoEnding => true,
+        Ending::Moving(_, _, _) => false,
+        Ending::Stationary(_) => false,
+        Ending::Forecast(_) => false,
+    }
 }
 
 pub(crate) fn good(kind: u8, r: Report) -> bool
@@ -135,7 +136,10 @@ pub(crate) fn good(kind: u8, r: Report) -> bool
     let ending = r.ending;
     let forecast = r.forecast;
     let end = both(good_level(level), good_ending(kind, ending, forecast));
-    let middle = both(good_observation(observation), both(placing::good(place), end));
+    let middle = both(
+        good_observation(observation),
+        both(placing::good(place), end),
+    );
     both(good_phenomenon(kind, r.phenomenon, volcano), middle)
 }
 
@@ -149,6 +153,15 @@ pub(crate) fn is_empty(r: Report) -> bool
     let ending = r.ending;
     let forecast = r.forecast;
     let phenomenon = both(r.phenomenon == 0, empty_volcano(volcano));
-    let end = both(empty_level(level), both(empty_ending(ending), placing::is_empty(forecast)));
-    both(phenomenon, both(empty_observation(observation), both(placing::is_empty(place), end)))
+    let end = both(
+        empty_level(level),
+        both(empty_ending(ending), placing::is_empty(forecast)),
+    );
+    both(
+        phenomenon,
+        both(
+            empty_observation(observation),
+            both(placing::is_empty(place), end),
+        ),
+    )
 }

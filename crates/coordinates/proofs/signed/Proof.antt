@@ -1,44 +1,37 @@
+-- `signed` meets its contract: by the letter, the size or its negative, which 32 bits hold. Assumes nothing.
 use borrow.Author.Needs.{needs}
+use Prim.Native.Nat.{_+_, _*_}
+use native.Mathlib.Omega.{arith}
+use Rattle.coordinates.proofs.Minutes.{size-fits, signed-minus, signed-plus}
 use Rattle.coordinates.proofs.signed.Statement.{statement}
 use Rattle.coordinates.proofs.signed.Tie as tie
-use Rattle.coordinates.proofs.signed.Reads as reads
-use Rattle.coordinates.proofs.signed.Lts as lts
 
--- src/lib.rt:59:16
 cast-size : tie.Need-cast-size
 cast-size c = search needs
 
--- src/lib.rt:59:16
 mul-size : tie.Need-mul-size
-mul-size c = ?
+mul-size c = search needs
 
--- src/lib.rt:59:40
 cast-size-2 : tie.Need-cast-size-2
 cast-size-2 c = search needs
 
--- src/lib.rt:59:16
 add-size : tie.Need-add-size
-add-size c = ?
+add-size c = search needs
 
--- src/lib.rt:62:16
+cast-size-3 : tie.Need-cast-size-3
+cast-size-3 c = search needs
+
+either-requires : tie.Need-either-requires
+either-requires c κs = search needs
+
 sub-result : tie.Need-sub-result
-sub-result c = ?
+sub-result c = size-fits (c .before .before .before .before .before .before .args .c .degrees * 60 + c .before .before .before .before .before .before .args .c .minutes) (omega arith)
 
--- src/lib.rt:62:9
 returns : tie.Need-returns
-returns c = ?
+returns c = signed-minus _ (c .before .either .ensures) (c .if1 .taken) (omega arith)
 
--- src/lib.rt:65:16
-sub-result-2 : tie.Need-sub-result-2
-sub-result-2 c = ?
-
--- src/lib.rt:65:9
 returns-2 : tie.Need-returns-2
-returns-2 c = ?
-
--- src/lib.rt:56:1
-returns-3 : tie.Need-returns-3
-returns-3 c = ?
+returns-2 c = signed-plus _ (c .before .either .ensures) (c .if1 .left) (omega arith)
 
 pub signed-spec : {M : Type 1} → statement M
 signed-spec =
@@ -48,8 +41,8 @@ signed-spec =
     mul-size
     cast-size-2
     add-size
+    cast-size-3
+    either-requires
     sub-result
     returns
-    sub-result-2
-    returns-2
-    returns-3)
+    returns-2)

@@ -1,66 +1,72 @@
+-- `period_word` meets its contract: each way out is one of `kept`'s, and the values read are the parts' groups. Assumes nothing.
+use lib.Dec.{eqb}
+use lib.ListN.{length}
 use borrow.Author.Needs.{needs}
+use borrow.Author.Tests.{eq-eqb, ne-eqb}
+use Rattle.lists.proofs.Choice.{both-true, both-false-left, both-false-right}
+use Rattle.groups.specs.Groups.{periodOf, goodPeriod, noPeriod}
+use Rattle.groups.proofs.GroupLaws.{period-made}
+use Rattle.groups.proofs.Kept.{kept-untested, kept-good, kept-bad}
 use Rattle.groups.proofs.period_word.Statement.{statement}
 use Rattle.groups.proofs.period_word.Tie as tie
-use Rattle.groups.proofs.period_word.Reads as reads
-use Rattle.groups.proofs.period_word.Lts as lts
-use Rattle.groups.proofs.good_period.Reads as good-period-reads
-use Rattle.groups.proofs.group_word.Reads as group-word-reads
 
--- src/lib.rt:79:9
 returns : tie.Need-returns
-returns c = ?
+unfolding periodOf
+returns c = kept-untested _ noPeriod (both-false-left _ (ne-eqb _ 13 (c .if1 .taken)))
 
--- src/lib.rt:81:8
 shared-slice-read-if2 : tie.Need-shared-slice-read-if2
 shared-slice-read-if2 c = search needs
 
--- src/lib.rt:82:9
 returns-2 : tie.Need-returns-2
-returns-2 c = ?
+unfolding periodOf
+returns-2 c =
+    kept-untested _ noPeriod
+    (both-false-right (eqb (length (c .before .before .before .before .args .w .now)) 13) (ne-eqb _ _ (c .if2 .taken)))
 
--- src/lib.rt:84:27
 sub-group-word : tie.Need-sub-group-word
 sub-group-word c = search needs
 
--- src/lib.rt:84:27
 part-group-word-start : tie.Need-part-group-word-start
 part-group-word-start c = search needs
 
--- src/lib.rt:84:27
 part-group-word-end : tie.Need-part-group-word-end
 part-group-word-end c = search needs
 
--- src/lib.rt:84:9
 group-word-requires : tie.Need-group-word-requires
 group-word-requires c κs = search needs
 
--- src/lib.rt:85:25
 sub-group-word-2 : tie.Need-sub-group-word-2
 sub-group-word-2 c = search needs
 
--- src/lib.rt:85:25
 part-group-word-start-2 : tie.Need-part-group-word-start-2
 part-group-word-start-2 c = search needs
 
--- src/lib.rt:85:25
 part-group-word-end-2 : tie.Need-part-group-word-end-2
 part-group-word-end-2 c = search needs
 
--- src/lib.rt:85:9
 group-word-requires-2 : tie.Need-group-word-requires-2
 group-word-requires-2 c κs = search needs
 
--- src/lib.rt:87:8
 good-period-requires : tie.Need-good-period-requires
 good-period-requires c κs = search needs
 
--- src/lib.rt:66:1
 returns-3 : tie.Need-returns-3
-returns-3 c = ?
+unfolding periodOf
+returns-3 c =
+    kept-good goodPeriod noPeriod
+    (both-true (eq-eqb _ 13 (c .before .before .before .before .before .before .before .before .if1 .left)) (eq-eqb _ _ (c .before .before .before .before .before .before .if2 .left)))
+    (period-made (c .before .before .before .before .group-word .ensures) (c .before .before .group-word2 .ensures))
+    (c .before .good-period .ensures)
+    (c .if3 .taken)
 
--- src/lib.rt:66:1
 returns-4 : tie.Need-returns-4
-returns-4 c = ?
+unfolding periodOf
+returns-4 c =
+    kept-bad goodPeriod noPeriod
+    (both-true (eq-eqb _ 13 (c .before .before .before .before .before .before .before .before .if1 .left)) (eq-eqb _ _ (c .before .before .before .before .before .before .if2 .left)))
+    (period-made (c .before .before .before .before .group-word .ensures) (c .before .before .group-word2 .ensures))
+    (c .before .good-period .ensures)
+    (c .if3 .left)
 
 pub period-word-spec : {M : Type 1} → statement M
 period-word-spec =

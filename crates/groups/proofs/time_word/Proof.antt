@@ -1,66 +1,72 @@
+-- `time_word` meets its contract: each way out is one of `kept`'s, and the values read are the parts' figures. Assumes nothing.
+use lib.Dec.{eqb}
+use lib.ListN.{length}
 use borrow.Author.Needs.{needs}
+use borrow.Author.Tests.{eq-eqb, ne-eqb}
+use Rattle.lists.proofs.Choice.{both-true, both-false-left, both-false-right}
+use Rattle.groups.specs.Groups.{timeOf, goodTime, noTime}
+use Rattle.groups.proofs.GroupLaws.{time-made}
+use Rattle.groups.proofs.Kept.{kept-untested, kept-good, kept-bad}
 use Rattle.groups.proofs.time_word.Statement.{statement}
 use Rattle.groups.proofs.time_word.Tie as tie
-use Rattle.groups.proofs.time_word.Reads as reads
-use Rattle.groups.proofs.time_word.Lts as lts
-use Rattle.figures.proofs.two.Reads as two-reads
-use Rattle.groups.proofs.good_time.Reads as good-time-reads
 
--- src/lib.rt:105:9
 returns : tie.Need-returns
-returns c = ?
+unfolding timeOf
+returns c = kept-untested _ noTime (both-false-left _ (ne-eqb _ 5 (c .if1 .taken)))
 
--- src/lib.rt:107:8
 shared-slice-read-if2 : tie.Need-shared-slice-read-if2
 shared-slice-read-if2 c = search needs
 
--- src/lib.rt:108:9
 returns-2 : tie.Need-returns-2
-returns-2 c = ?
+unfolding timeOf
+returns-2 c =
+    kept-untested _ noTime
+    (both-false-right (eqb (length (c .before .before .before .before .args .w .now)) 5) (ne-eqb _ _ (c .if2 .taken)))
 
--- src/lib.rt:110:20
 sub-two : tie.Need-sub-two
 sub-two c = search needs
 
--- src/lib.rt:110:20
 part-two-start : tie.Need-part-two-start
 part-two-start c = search needs
 
--- src/lib.rt:110:20
 part-two-end : tie.Need-part-two-end
 part-two-end c = search needs
 
--- src/lib.rt:110:9
 two-requires : tie.Need-two-requires
 two-requires c κs = search needs
 
--- src/lib.rt:111:22
 sub-two-2 : tie.Need-sub-two-2
 sub-two-2 c = search needs
 
--- src/lib.rt:111:22
 part-two-start-2 : tie.Need-part-two-start-2
 part-two-start-2 c = search needs
 
--- src/lib.rt:111:22
 part-two-end-2 : tie.Need-part-two-end-2
 part-two-end-2 c = search needs
 
--- src/lib.rt:111:9
 two-requires-2 : tie.Need-two-requires-2
 two-requires-2 c κs = search needs
 
--- src/lib.rt:113:8
 good-time-requires : tie.Need-good-time-requires
 good-time-requires c κs = search needs
 
--- src/lib.rt:97:1
 returns-3 : tie.Need-returns-3
-returns-3 c = ?
+unfolding timeOf
+returns-3 c =
+    kept-good goodTime noTime
+    (both-true (eq-eqb _ 5 (c .before .before .before .before .before .before .before .before .if1 .left)) (eq-eqb _ _ (c .before .before .before .before .before .before .if2 .left)))
+    (time-made (c .before .before .before .before .two .ensures) (c .before .before .two2 .ensures))
+    (c .before .good-time .ensures)
+    (c .if3 .taken)
 
--- src/lib.rt:97:1
 returns-4 : tie.Need-returns-4
-returns-4 c = ?
+unfolding timeOf
+returns-4 c =
+    kept-bad goodTime noTime
+    (both-true (eq-eqb _ 5 (c .before .before .before .before .before .before .before .before .if1 .left)) (eq-eqb _ _ (c .before .before .before .before .before .before .if2 .left)))
+    (time-made (c .before .before .before .before .two .ensures) (c .before .before .two2 .ensures))
+    (c .before .good-time .ensures)
+    (c .if3 .left)
 
 pub time-word-spec : {M : Type 1} → statement M
 time-word-spec =

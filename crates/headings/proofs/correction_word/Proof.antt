@@ -1,45 +1,47 @@
+-- `correction_word` meets its contract: its tests are those of the definition, one by one. Assumes nothing.
+use mathlib.Core.Path.{refl}
+use native.Mathlib.Omega.{arith}
+use lib.ListN.{length, getD}
+use borrow.Author.Tests.{eq-eqb, ne-eqb}
 use borrow.Author.Needs.{needs}
+use Rattle.headings.specs.Headings.{goodCorrection}
+use Rattle.headings.specs.Headings.{correctionOf}
+use Rattle.headings.proofs.Kept.{kept-good, kept-bad}
+use Rattle.headings.proofs.HeadingLaws.{correction-passes}
 use Rattle.headings.proofs.correction_word.Statement.{statement}
 use Rattle.headings.proofs.correction_word.Tie as tie
-use Rattle.headings.proofs.correction_word.Reads as reads
-use Rattle.headings.proofs.correction_word.Lts as lts
-use Rattle.headings.proofs.good_correction.Reads as good-correction-reads
 
--- src/lib.rt:104:9
 returns : tie.Need-returns
-returns c = ?
+unfolding correctionOf
+returns c = rw (ne-eqb (length (c .before .before .args .w .now)) 3 (omega arith))
 
--- src/lib.rt:106:8
 shared-slice-read-if2 : tie.Need-shared-slice-read-if2
 shared-slice-read-if2 c = search needs
 
--- src/lib.rt:107:9
 returns-2 : tie.Need-returns-2
-returns-2 c = ?
+unfolding correctionOf
+returns-2 c = rw (eq-eqb (length (c .before .before .before .before .args .w .now)) 3 (omega arith), ne-eqb (getD (c .before .before .before .before .args .w .now) 0 0) 67 (omega arith))
 
--- src/lib.rt:109:8
 shared-slice-read-if3 : tie.Need-shared-slice-read-if3
 shared-slice-read-if3 c = search needs
 
--- src/lib.rt:110:9
 returns-3 : tie.Need-returns-3
-returns-3 c = ?
+unfolding correctionOf
+returns-3 c = rw (eq-eqb (length (c .before .before .before .before .before .before .args .w .now)) 3 (omega arith), eq-eqb (getD (c .before .before .before .before .before .before .args .w .now) 0 0) 67 (omega arith), ne-eqb (getD (c .before .before .before .before .before .before .args .w .now) 1 0) 67 (omega arith))
 
--- src/lib.rt:112:13
 shared-slice-read-c : tie.Need-shared-slice-read-c
 shared-slice-read-c c = search needs
 
--- src/lib.rt:113:8
 good-correction-requires : tie.Need-good-correction-requires
 good-correction-requires c κs = search needs
 
--- src/lib.rt:100:1
 returns-4 : tie.Need-returns-4
-returns-4 c = ?
+unfolding correctionOf
+returns-4 c = kept-good goodCorrection 0 (correction-passes (c .before .before .before .before .before .before .before .before .before .args .w .now) (omega arith) (omega arith) (omega arith)) refl (c .before .good-correction .ensures) (c .if4 .taken)
 
--- src/lib.rt:100:1
 returns-5 : tie.Need-returns-5
-returns-5 c = ?
+unfolding correctionOf
+returns-5 c = kept-bad goodCorrection 0 (correction-passes (c .before .before .before .before .before .before .before .before .before .args .w .now) (omega arith) (omega arith) (omega arith)) refl (c .before .good-correction .ensures) (c .if4 .left)
 
 pub correction-word-spec : {M : Type 1} → statement M
 correction-word-spec =

@@ -1,41 +1,38 @@
+-- `office_word` meets its contract: its tests are those of the definition, one by one. Assumes nothing.
+use native.Mathlib.Omega.{arith}
+use lib.ListN.{length, getD}
+use borrow.Author.Tests.{eq-eqb, ne-eqb}
 use borrow.Author.Needs.{needs}
+use Rattle.headings.specs.Headings.{officeOf}
 use Rattle.headings.proofs.office_word.Statement.{statement}
 use Rattle.headings.proofs.office_word.Tie as tie
-use Rattle.headings.proofs.office_word.Reads as reads
-use Rattle.headings.proofs.office_word.Lts as lts
-use Rattle.figures.proofs.letters.Reads as letters-reads
 
--- src/lib.rt:121:9
 returns : tie.Need-returns
-returns c = ?
+unfolding officeOf
+returns c = rw (ne-eqb (length (c .before .before .args .w .now)) 5 (omega arith))
 
--- src/lib.rt:123:8
 shared-slice-read-if2 : tie.Need-shared-slice-read-if2
 shared-slice-read-if2 c = search needs
 
--- src/lib.rt:124:9
 returns-2 : tie.Need-returns-2
-returns-2 c = ?
+unfolding officeOf
+returns-2 c = rw (eq-eqb (length (c .before .before .before .before .args .w .now)) 5 (omega arith), ne-eqb (getD (c .before .before .before .before .args .w .now) 4 0) 45 (omega arith))
 
--- src/lib.rt:126:13
 sub-letters : tie.Need-sub-letters
 sub-letters c = search needs
 
--- src/lib.rt:126:13
 part-letters-start : tie.Need-part-letters-start
 part-letters-start c = search needs
 
--- src/lib.rt:126:13
 part-letters-end : tie.Need-part-letters-end
 part-letters-end c = search needs
 
--- src/lib.rt:126:5
 letters-requires : tie.Need-letters-requires
 letters-requires c κs = search needs
 
--- src/lib.rt:117:1
 returns-3 : tie.Need-returns-3
-returns-3 c = ?
+unfolding officeOf
+returns-3 c = rw (eq-eqb (length (c .before .before .before .before .before .before .args .w .now)) 5 (omega arith), eq-eqb (getD (c .before .before .before .before .before .before .args .w .now) 4 0) 45 (omega arith)) (c .letters .ensures)
 
 pub office-word-spec : {M : Type 1} → statement M
 office-word-spec =

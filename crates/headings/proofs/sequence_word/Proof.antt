@@ -1,79 +1,72 @@
+-- `sequence_word` meets its contract: a letter in front decides which of the two forms is read. Assumes nothing.
+use mathlib.Core.Path.{sym, _∙_}
+use native.Mathlib.Omega.{arith}
+use lib.ListN.{length}
+use borrow.Author.Tests.{le-leb, lt-leb}
 use borrow.Author.Needs.{needs}
+use Rattle.lists.proofs.Choice.{both-true}
+use Rattle.headings.specs.Sequences.{goodSequence, noSequence, sequenceOf}
+use Rattle.headings.proofs.SequenceLaws.{with-letter, without-letter}
+use Rattle.headings.proofs.Kept.{kept-good, kept-bad}
 use Rattle.headings.proofs.sequence_word.Statement.{statement}
 use Rattle.headings.proofs.sequence_word.Tie as tie
-use Rattle.headings.proofs.sequence_word.Reads as reads
-use Rattle.headings.proofs.sequence_word.Lts as lts
-use Rattle.figures.proofs.is_letter.Reads as is-letter-reads
-use Rattle.figures.proofs.three.Reads as three-reads
-use Rattle.headings.proofs.good_sequence.Reads as good-sequence-reads
 
--- src/lib.rt:160:9
 returns : tie.Need-returns
-returns c = ?
+unfolding sequenceOf
+returns c = rw (lt-leb 1 (length (c .before .before .args .w .now)) (omega arith))
 
--- src/lib.rt:163:9
 returns-2 : tie.Need-returns-2
-returns-2 c = ?
+unfolding sequenceOf
+returns-2 c = rw (le-leb 1 (length (c .before .before .before .args .w .now)) (omega arith), lt-leb (length (c .before .before .before .args .w .now)) 3 (omega arith))
 
--- src/lib.rt:165:17
 shared-slice-read-first : tie.Need-shared-slice-read-first
 shared-slice-read-first c = search needs
 
--- src/lib.rt:166:8
 is-letter-requires : tie.Need-is-letter-requires
 is-letter-requires c κs = search needs
 
--- src/lib.rt:167:28
 sub-three : tie.Need-sub-three
 sub-three c = search needs
 
--- src/lib.rt:167:28
 part-three-start : tie.Need-part-three-start
 part-three-start c = search needs
 
--- src/lib.rt:167:28
 part-three-end : tie.Need-part-three-end
 part-three-end c = search needs
 
--- src/lib.rt:167:13
 three-requires : tie.Need-three-requires
 three-requires c κs = search needs
 
--- src/lib.rt:170:21
 cast-t17 : tie.Need-cast-t17
 cast-t17 c = search needs
 
--- src/lib.rt:173:19
 good-sequence-requires : tie.Need-good-sequence-requires
 good-sequence-requires c κs = search needs
 
--- src/lib.rt:173:9
 returns-3 : tie.Need-returns-3
-returns-3 c = ?
+unfolding sequenceOf
+returns-3 c = kept-good goodSequence noSequence (both-true (le-leb 1 (length (c .before .before .before .before .before .before .before .before .before .before .args .w .now)) (omega arith)) (le-leb (length (c .before .before .before .before .before .before .before .before .before .before .args .w .now)) 3 (omega arith))) (with-letter (c .before .before .before .before .before .before .before .before .before .before .args .w .now) _ (sym (c .before .before .before .before .before .is-letter .ensures) ∙ c .before .before .before .before .if3 .taken) (c .before .before .three .ensures)) (c .before .good-sequence .ensures) (c .if4 .taken)
 
--- src/lib.rt:173:9
 returns-4 : tie.Need-returns-4
-returns-4 c = ?
+unfolding sequenceOf
+returns-4 c = kept-bad goodSequence noSequence (both-true (le-leb 1 (length (c .before .before .before .before .before .before .before .before .before .before .args .w .now)) (omega arith)) (le-leb (length (c .before .before .before .before .before .before .before .before .before .before .args .w .now)) 3 (omega arith))) (with-letter (c .before .before .before .before .before .before .before .before .before .before .args .w .now) _ (sym (c .before .before .before .before .before .is-letter .ensures) ∙ c .before .before .before .before .if3 .taken) (c .before .before .three .ensures)) (c .before .good-sequence .ensures) (c .if4 .left)
 
--- src/lib.rt:175:9
 three-requires-2 : tie.Need-three-requires-2
 three-requires-2 c κs = search needs
 
--- src/lib.rt:178:17
 cast-t11 : tie.Need-cast-t11
 cast-t11 c = search needs
 
--- src/lib.rt:181:8
 good-sequence-requires-2 : tie.Need-good-sequence-requires-2
 good-sequence-requires-2 c κs = search needs
 
--- src/lib.rt:150:1
 returns-5 : tie.Need-returns-5
-returns-5 c = ?
+unfolding sequenceOf
+returns-5 c = kept-good goodSequence noSequence (both-true (le-leb 1 (length (c .before .before .before .before .before .before .before .before .before .args .w .now)) (omega arith)) (le-leb (length (c .before .before .before .before .before .before .before .before .before .args .w .now)) 3 (omega arith))) (without-letter (c .before .before .before .before .before .before .before .before .before .args .w .now) _ (sym (c .before .before .before .before .is-letter .ensures) ∙ c .before .before .before .if3 .left) (c .before .before .three2 .ensures)) (c .before .good-sequence2 .ensures) (c .if5 .taken)
 
--- src/lib.rt:150:1
 returns-6 : tie.Need-returns-6
-returns-6 c = ?
+unfolding sequenceOf
+returns-6 c = kept-bad goodSequence noSequence (both-true (le-leb 1 (length (c .before .before .before .before .before .before .before .before .before .args .w .now)) (omega arith)) (le-leb (length (c .before .before .before .before .before .before .before .before .before .args .w .now)) 3 (omega arith))) (without-letter (c .before .before .before .before .before .before .before .before .before .args .w .now) _ (sym (c .before .before .before .before .is-letter .ensures) ∙ c .before .before .before .if3 .left) (c .before .before .three2 .ensures)) (c .before .good-sequence2 .ensures) (c .if5 .left)
 
 pub sequence-word-spec : {M : Type 1} → statement M
 sequence-word-spec =

@@ -1,83 +1,73 @@
+-- `band_nine` meets its contract: its tests are those of the definition. Assumes nothing.
+use mathlib.Core.Bool.{true}
+use mathlib.Core.Path.{_≡_}
+use borrow.Author.Tests.{eq-eqb, ne-eqb}
 use borrow.Author.Needs.{needs}
+use Rattle.lists.specs.Lists.{part, same}
+use Rattle.lists.specs.Text.{bytes}
+use Rattle.levels.specs.Levels.{goodLevelWord}
+use Rattle.levels.proofs.Codes.{same-yes, same-no, coded-fl}
 use Rattle.levels.proofs.band_nine.Statement.{statement}
 use Rattle.levels.proofs.band_nine.Tie as tie
-use Rattle.levels.proofs.band_nine.Reads as reads
-use Rattle.levels.proofs.band_nine.Lts as lts
-use Rattle.figures.proofs.code.Reads as code-reads
-use Rattle.figures.proofs.figures.Reads as figures-reads
-use Rattle.levels.proofs.good_band.Reads as good-band-reads
 
--- src/lib.rt:78:13
+is-flight : (c : tie.Else1) → same (part 0 2 (c .before .before .before .before .args .w .now)) (bytes "FL") ≡ true
+is-flight c = same-yes coded-fl _ (c .before .code .ensures) (c .if1 .left)
+
 sub-code : tie.Need-sub-code
 sub-code c = search needs
 
--- src/lib.rt:78:13
 part-code-start : tie.Need-part-code-start
 part-code-start c = search needs
 
--- src/lib.rt:78:13
 part-code-end : tie.Need-part-code-end
 part-code-end c = search needs
 
--- src/lib.rt:78:8
 code-requires : tie.Need-code-requires
 code-requires c κs = search needs
 
--- src/lib.rt:79:9
 returns : tie.Need-returns
-returns c = ?
+returns c = rw (same-no coded-fl _ (c .before .code .ensures) (c .if1 .taken))
 
--- src/lib.rt:81:8
 shared-slice-read-if2 : tie.Need-shared-slice-read-if2
 shared-slice-read-if2 c = search needs
 
--- src/lib.rt:82:9
 returns-2 : tie.Need-returns-2
-returns-2 c = ?
+returns-2 c = rw (is-flight (c .before .before), ne-eqb _ 47 (c .if2 .taken))
 
--- src/lib.rt:84:23
 sub-figures : tie.Need-sub-figures
 sub-figures c = search needs
 
--- src/lib.rt:84:23
 part-figures-start : tie.Need-part-figures-start
 part-figures-start c = search needs
 
--- src/lib.rt:84:23
 part-figures-end : tie.Need-part-figures-end
 part-figures-end c = search needs
 
--- src/lib.rt:84:9
 figures-requires : tie.Need-figures-requires
 figures-requires c κs = search needs
 
--- src/lib.rt:85:24
 sub-figures-2 : tie.Need-sub-figures-2
 sub-figures-2 c = search needs
 
--- src/lib.rt:85:24
 part-figures-start-2 : tie.Need-part-figures-start-2
 part-figures-start-2 c = search needs
 
--- src/lib.rt:85:24
 part-figures-end-2 : tie.Need-part-figures-end-2
 part-figures-end-2 c = search needs
 
--- src/lib.rt:85:9
 figures-requires-2 : tie.Need-figures-requires-2
 figures-requires-2 c κs = search needs
 
--- src/lib.rt:86:8
 good-band-requires : tie.Need-good-band-requires
 good-band-requires c κs = search needs
 
--- src/lib.rt:74:1
 returns-3 : tie.Need-returns-3
-returns-3 c = ?
+unfolding goodLevelWord
+returns-3 c = rw (is-flight (c .before .before .before .before .before .before .before .before), eq-eqb _ 47 (c .before .before .before .before .before .before .if2 .left), ← c .before .before .before .before .figures .ensures, ← c .before .before .figures2 .ensures, ← c .before .good-band .ensures, c .if3 .taken)
 
--- src/lib.rt:74:1
 returns-4 : tie.Need-returns-4
-returns-4 c = ?
+unfolding goodLevelWord
+returns-4 c = rw (is-flight (c .before .before .before .before .before .before .before .before), eq-eqb _ 47 (c .before .before .before .before .before .before .if2 .left), ← c .before .before .before .before .figures .ensures, ← c .before .before .figures2 .ensures, ← c .before .good-band .ensures, c .if3 .left)
 
 pub band-nine-spec : {M : Type 1} → statement M
 band-nine-spec =

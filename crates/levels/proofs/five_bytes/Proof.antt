@@ -1,59 +1,54 @@
+-- `five_bytes` meets its contract: its tests are those of the definition. Assumes nothing.
+use mathlib.Core.Bool.{true}
+use mathlib.Core.Path.{_≡_}
 use borrow.Author.Needs.{needs}
+use Rattle.lists.specs.Lists.{part, same}
+use Rattle.lists.specs.Text.{bytes}
+use Rattle.levels.specs.Levels.{goodLevelWord}
+use Rattle.levels.proofs.Codes.{same-yes, same-no, coded-fl}
 use Rattle.levels.proofs.five_bytes.Statement.{statement}
 use Rattle.levels.proofs.five_bytes.Tie as tie
-use Rattle.levels.proofs.five_bytes.Reads as reads
-use Rattle.levels.proofs.five_bytes.Lts as lts
-use Rattle.figures.proofs.code.Reads as code-reads
-use Rattle.figures.proofs.figures.Reads as figures-reads
-use Rattle.levels.proofs.is_between.Reads as is-between-reads
 
--- src/lib.rt:34:13
+is-flight : (c : tie.Else1) → same (part 0 2 (c .before .before .before .before .args .w .now)) (bytes "FL") ≡ true
+is-flight c = same-yes coded-fl _ (c .before .code .ensures) (c .if1 .left)
+
 sub-code : tie.Need-sub-code
 sub-code c = search needs
 
--- src/lib.rt:34:13
 part-code-start : tie.Need-part-code-start
 part-code-start c = search needs
 
--- src/lib.rt:34:13
 part-code-end : tie.Need-part-code-end
 part-code-end c = search needs
 
--- src/lib.rt:34:8
 code-requires : tie.Need-code-requires
 code-requires c κs = search needs
 
--- src/lib.rt:35:9
 returns : tie.Need-returns
-returns c = ?
+returns c = rw (same-no coded-fl _ (c .before .code .ensures) (c .if1 .taken))
 
--- src/lib.rt:37:21
 sub-figures : tie.Need-sub-figures
 sub-figures c = search needs
 
--- src/lib.rt:37:21
 part-figures-start : tie.Need-part-figures-start
 part-figures-start c = search needs
 
--- src/lib.rt:37:21
 part-figures-end : tie.Need-part-figures-end
 part-figures-end c = search needs
 
--- src/lib.rt:37:9
 figures-requires : tie.Need-figures-requires
 figures-requires c κs = search needs
 
--- src/lib.rt:38:8
 is-between-requires : tie.Need-is-between-requires
 is-between-requires c κs = search needs
 
--- src/lib.rt:30:1
 returns-2 : tie.Need-returns-2
-returns-2 c = ?
+unfolding goodLevelWord
+returns-2 c = rw (is-flight (c .before .before .before .before), ← c .before .before .figures .ensures, ← c .before .is-between .ensures, c .if2 .taken)
 
--- src/lib.rt:30:1
 returns-3 : tie.Need-returns-3
-returns-3 c = ?
+unfolding goodLevelWord
+returns-3 c = rw (is-flight (c .before .before .before .before), ← c .before .before .figures .ensures, ← c .before .is-between .ensures, c .if2 .left)
 
 pub five-bytes-spec : {M : Type 1} → statement M
 five-bytes-spec =

@@ -1,43 +1,38 @@
+-- `level_word` meets its contract: it goes by the length as the definition does. Assumes nothing.
+use borrow.Author.Tests.{eq-eqb, ne-eqb, le-leb, lt-leb}
 use borrow.Author.Needs.{needs}
+use Rattle.levels.specs.Levels.{levelOf}
 use Rattle.levels.proofs.level_word.Statement.{statement}
 use Rattle.levels.proofs.level_word.Tie as tie
-use Rattle.levels.proofs.level_word.Reads as reads
-use Rattle.levels.proofs.level_word.Lts as lts
-use Rattle.levels.proofs.five_bytes.Reads as five-bytes-reads
-use Rattle.levels.proofs.nine_bytes.Reads as nine-bytes-reads
-use Rattle.levels.proofs.ten_or_eleven.Reads as ten-or-eleven-reads
 
--- src/lib.rt:139:9
 five-bytes-requires : tie.Need-five-bytes-requires
 five-bytes-requires c κs = search needs
 
--- src/lib.rt:139:9
 returns : tie.Need-returns
-returns c = ?
+unfolding levelOf
+returns c = rw (eq-eqb _ 5 (c .before .if1 .taken)) (c .five-bytes .ensures)
 
--- src/lib.rt:142:9
 nine-bytes-requires : tie.Need-nine-bytes-requires
 nine-bytes-requires c κs = search needs
 
--- src/lib.rt:142:9
 returns-2 : tie.Need-returns-2
-returns-2 c = ?
+unfolding levelOf
+returns-2 c = rw (ne-eqb _ 5 (c .before .before .if1 .left), eq-eqb _ 9 (c .before .if2 .taken)) (c .nine-bytes .ensures)
 
--- src/lib.rt:145:9
 returns-3 : tie.Need-returns-3
-returns-3 c = ?
+unfolding levelOf
+returns-3 c = rw (ne-eqb _ 5 (c .before .before .if1 .left), ne-eqb _ 9 (c .before .if2 .left), lt-leb 10 _ (c .if3 .taken))
 
--- src/lib.rt:148:9
 returns-4 : tie.Need-returns-4
-returns-4 c = ?
+unfolding levelOf
+returns-4 c = rw (ne-eqb _ 5 (c .before .before .before .if1 .left), ne-eqb _ 9 (c .before .before .if2 .left), le-leb 10 _ (c .before .if3 .left), lt-leb _ 11 (c .if4 .taken))
 
--- src/lib.rt:150:5
 ten-or-eleven-requires : tie.Need-ten-or-eleven-requires
 ten-or-eleven-requires c κs = search needs
 
--- src/lib.rt:134:1
 returns-5 : tie.Need-returns-5
-returns-5 c = ?
+unfolding levelOf
+returns-5 c = rw (ne-eqb _ 5 (c .before .before .before .before .if1 .left), ne-eqb _ 9 (c .before .before .before .if2 .left), le-leb 10 _ (c .before .before .if3 .left), le-leb _ 11 (c .before .if4 .left)) (c .ten-or-eleven .ensures)
 
 pub level-word-spec : {M : Type 1} → statement M
 level-word-spec =

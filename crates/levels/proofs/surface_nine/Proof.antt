@@ -1,91 +1,84 @@
+-- `surface_nine` meets its contract: its tests are those of the definition. Assumes nothing.
+use mathlib.Core.Bool.{true, false}
+use mathlib.Core.Path.{_≡_}
+use borrow.Author.Tests.{eq-eqb, ne-eqb}
 use borrow.Author.Needs.{needs}
+use Rattle.lists.specs.Lists.{part, same}
+use Rattle.lists.specs.Text.{bytes}
+use Rattle.levels.specs.Levels.{goodLevelWord}
+use Rattle.levels.proofs.Codes.{same-yes, same-no, coded-fl}
 use Rattle.levels.proofs.surface_nine.Statement.{statement}
 use Rattle.levels.proofs.surface_nine.Tie as tie
-use Rattle.levels.proofs.surface_nine.Reads as reads
-use Rattle.levels.proofs.surface_nine.Lts as lts
-use Rattle.figures.proofs.code.Reads as code-reads
-use Rattle.figures.proofs.figures.Reads as figures-reads
-use Rattle.levels.proofs.is_between.Reads as is-between-reads
 
--- src/lib.rt:49:13
+is-flight : (c : tie.Then1) → same (part 4 6 (c .before .before .before .before .args .w .now)) (bytes "FL") ≡ true
+is-flight c = same-yes coded-fl _ (c .before .code .ensures) (c .if1 .taken)
+
+no-flight : (c : tie.Else1) → same (part 4 6 (c .before .before .before .before .args .w .now)) (bytes "FL") ≡ false
+no-flight c = same-no coded-fl _ (c .before .code .ensures) (c .if1 .left)
+
 sub-code : tie.Need-sub-code
 sub-code c = search needs
 
--- src/lib.rt:49:13
 part-code-start : tie.Need-part-code-start
 part-code-start c = search needs
 
--- src/lib.rt:49:13
 part-code-end : tie.Need-part-code-end
 part-code-end c = search needs
 
--- src/lib.rt:49:8
 code-requires : tie.Need-code-requires
 code-requires c κs = search needs
 
--- src/lib.rt:50:25
 sub-figures : tie.Need-sub-figures
 sub-figures c = search needs
 
--- src/lib.rt:50:25
 part-figures-start : tie.Need-part-figures-start
 part-figures-start c = search needs
 
--- src/lib.rt:50:25
 part-figures-end : tie.Need-part-figures-end
 part-figures-end c = search needs
 
--- src/lib.rt:50:13
 figures-requires : tie.Need-figures-requires
 figures-requires c κs = search needs
 
--- src/lib.rt:51:19
 is-between-requires : tie.Need-is-between-requires
 is-between-requires c κs = search needs
 
--- src/lib.rt:51:9
 returns : tie.Need-returns
-returns c = ?
+unfolding goodLevelWord
+returns c = rw (is-flight (c .before .before .before .before), ← c .before .before .figures .ensures, ← c .before .is-between .ensures, c .if2 .taken)
 
--- src/lib.rt:51:9
 returns-2 : tie.Need-returns-2
-returns-2 c = ?
+unfolding goodLevelWord
+returns-2 c = rw (is-flight (c .before .before .before .before), ← c .before .before .figures .ensures, ← c .before .is-between .ensures, c .if2 .left)
 
--- src/lib.rt:57:8
 shared-slice-read-if3 : tie.Need-shared-slice-read-if3
 shared-slice-read-if3 c = search needs
 
--- src/lib.rt:58:9
 returns-3 : tie.Need-returns-3
-returns-3 c = ?
+returns-3 c = rw (no-flight (c .before .before), ne-eqb _ 77 (c .if3 .taken))
 
--- src/lib.rt:60:21
 sub-figures-2 : tie.Need-sub-figures-2
 sub-figures-2 c = search needs
 
--- src/lib.rt:60:21
 part-figures-start-2 : tie.Need-part-figures-start-2
 part-figures-start-2 c = search needs
 
--- src/lib.rt:60:21
 part-figures-end-2 : tie.Need-part-figures-end-2
 part-figures-end-2 c = search needs
 
--- src/lib.rt:60:9
 figures-requires-2 : tie.Need-figures-requires-2
 figures-requires-2 c κs = search needs
 
--- src/lib.rt:61:8
 is-between-requires-2 : tie.Need-is-between-requires-2
 is-between-requires-2 c κs = search needs
 
--- src/lib.rt:45:1
 returns-4 : tie.Need-returns-4
-returns-4 c = ?
+unfolding goodLevelWord
+returns-4 c = rw (no-flight (c .before .before .before .before .before .before), eq-eqb _ 77 (c .before .before .before .before .if3 .left), ← c .before .before .figures2 .ensures, ← c .before .is-between2 .ensures, c .if4 .taken)
 
--- src/lib.rt:45:1
 returns-5 : tie.Need-returns-5
-returns-5 c = ?
+unfolding goodLevelWord
+returns-5 c = rw (no-flight (c .before .before .before .before .before .before), eq-eqb _ 77 (c .before .before .before .before .if3 .left), ← c .before .before .figures2 .ensures, ← c .before .is-between2 .ensures, c .if4 .left)
 
 pub surface-nine-spec : {M : Type 1} → statement M
 surface-nine-spec =

@@ -1,51 +1,48 @@
+-- `all_name_bytes` meets its contract: the loop keeps what is still to be tested. Assumes nothing.
+use mathlib.Core.Path.{_≡_, refl, sym, _∙_}
+use Prim.Native.Nat.{_-_}
+use native.Mathlib.Omega.{arith}
+use borrow.Author.Needs.{needs}
+use borrow.Author.Tests.{not-true, not-false}
+use lib.ListN.{length, drop}
+use Rattle.lists.specs.Lists.{allOf}
+use Rattle.lists.proofs.Lists.{all-past, all-stop, all-end}
+use Rattle.names.specs.Names.{nameByte}
 use Rattle.names.proofs.all_name_bytes.Statement.{statement}
 use Rattle.names.proofs.all_name_bytes.Tie as tie
-use Rattle.names.proofs.all_name_bytes.Reads as reads
-use Rattle.names.proofs.all_name_bytes.Lts as lts
-use Rattle.figures.proofs.is_letter.Reads as is-letter-reads
-use Rattle.lists.proofs.either.Reads as either-reads
 
 abbrev Inv-loop : tie.InvT-loop
-Inv-loop w i₀ i = ?
+Inv-loop w i₀ i = allOf nameByte w ≡ allOf nameByte (drop i w)
 
 abbrev μ-loop : tie.MeasureT-loop
-μ-loop w i₀ i = ?
+μ-loop w i₀ i = length w - i
 
--- src/lib.rt:18:5
 loop-holds : tie.Need-loop-holds Inv-loop μ-loop
-loop-holds c = ?
+loop-holds c = refl
 
--- src/lib.rt:19:17
 shared-slice-read-x : tie.Need-shared-slice-read-x Inv-loop μ-loop
-shared-slice-read-x c = ?
+shared-slice-read-x c = omega arith
 
--- src/lib.rt:20:20
 is-letter-requires : tie.Need-is-letter-requires Inv-loop μ-loop
-is-letter-requires c κs = ?
+is-letter-requires c κs = search needs
 
--- src/lib.rt:20:13
 either-requires : tie.Need-either-requires Inv-loop μ-loop
-either-requires c κs = ?
+either-requires c κs = search needs
 
--- src/lib.rt:21:13
 returns : tie.Need-returns Inv-loop μ-loop
-returns c = ?
+returns c = sym (c .before .before .before .before .before .loop .inv ∙ all-stop nameByte (c .before .before .before .before .before .before .before .args .w .now) (c .before .before .before .before .before .loop .i) 0 (omega arith) (rw (← (c .before .before .is-letter .ensures)) (sym (c .before .either .ensures) ∙ not-true _ (c .if1 .taken))))
 
--- src/lib.rt:23:9
 add-i : tie.Need-add-i Inv-loop μ-loop
-add-i c = ?
+add-i c = omega arith
 
--- src/lib.rt:18:5
 loop-less : tie.Need-loop-less Inv-loop μ-loop
-loop-less c = ?
+loop-less c = omega arith
 
--- src/lib.rt:18:5
 loop-again : tie.Need-loop-again Inv-loop μ-loop
-loop-again c = ?
+loop-again c = c .before .before .before .before .before .loop .inv ∙ all-past nameByte (c .before .before .before .before .before .before .before .args .w .now) (c .before .before .before .before .before .loop .i) 0 (omega arith) (rw (← (c .before .before .is-letter .ensures)) (sym (c .before .either .ensures) ∙ not-false _ (c .if1 .left)))
 
--- src/lib.rt:14:1
 returns-2 : tie.Need-returns-2 Inv-loop μ-loop
-returns-2 c = ?
+returns-2 c = sym (c .before .loop .inv ∙ all-end nameByte (c .before .before .before .args .w .now) (c .before .loop .i) (omega arith))
 
 pub all-name-bytes-spec : {M : Type 1} → statement M
 all-name-bytes-spec =

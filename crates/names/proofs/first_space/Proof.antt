@@ -1,41 +1,41 @@
+-- `first_space` meets its contract: the loop keeps what is still to be found. Assumes nothing.
+use mathlib.Core.Path.{_≡_, refl, sym, _∙_}
+use Prim.Native.Nat.{_-_}
+use native.Mathlib.Omega.{arith}
+use lib.Dec.{eqb}
+use lib.ListN.{length}
+use borrow.Author.Tests.{eq-eqb, ne-eqb}
+use Rattle.lists.specs.Lists.{indexFrom}
+use Rattle.lists.proofs.Lists.{from-here, from-past, from-none}
 use Rattle.names.proofs.first_space.Statement.{statement}
 use Rattle.names.proofs.first_space.Tie as tie
-use Rattle.names.proofs.first_space.Reads as reads
-use Rattle.names.proofs.first_space.Lts as lts
 
 abbrev Inv-loop : tie.InvT-loop
-Inv-loop t start i₀ i = ?
+Inv-loop t start i₀ i = indexFrom (eqb 32) start t ≡ indexFrom (eqb 32) i t
 
 abbrev μ-loop : tie.MeasureT-loop
-μ-loop t start i₀ i = ?
+μ-loop t start i₀ i = length t - i
 
--- src/lib.rt:73:5
 loop-holds : tie.Need-loop-holds Inv-loop μ-loop
-loop-holds c = ?
+loop-holds c = refl
 
--- src/lib.rt:74:18
 shared-slice-read-if1 : tie.Need-shared-slice-read-if1 Inv-loop μ-loop
-shared-slice-read-if1 c = ?
+shared-slice-read-if1 c = omega arith
 
--- src/lib.rt:75:13
 returns : tie.Need-returns Inv-loop μ-loop
-returns c = ?
+returns c = sym (c .before .before .before .loop .inv ∙ from-here (eqb 32) _ _ 0 (omega arith) (eq-eqb 32 _ (c .if1 .taken)))
 
--- src/lib.rt:77:9
 add-i : tie.Need-add-i Inv-loop μ-loop
-add-i c = ?
+add-i c = omega arith
 
--- src/lib.rt:73:5
 loop-less : tie.Need-loop-less Inv-loop μ-loop
-loop-less c = ?
+loop-less c = omega arith
 
--- src/lib.rt:73:5
 loop-again : tie.Need-loop-again Inv-loop μ-loop
-loop-again c = ?
+loop-again c = c .before .before .before .loop .inv ∙ from-past (eqb 32) _ _ 0 (omega arith) (ne-eqb 32 _ (c .if1 .left))
 
--- src/lib.rt:69:1
 returns-2 : tie.Need-returns-2 Inv-loop μ-loop
-returns-2 c = ?
+returns-2 c = sym (c .before .loop .inv ∙ from-none (eqb 32) _ _ (omega arith))
 
 pub first-space-spec : {M : Type 1} → statement M
 first-space-spec =

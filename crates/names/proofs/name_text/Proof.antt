@@ -1,79 +1,67 @@
+-- `name_text` meets its contract: the loop keeps what is still to be tested. Assumes nothing.
+use mathlib.Core.Path.{sym, _∙_}
+use Prim.Native.Nat.{_-_}
+use native.Mathlib.Omega.{arith}
+use borrow.Author.Needs.{needs}
+use borrow.Author.Tests.{not-true, not-false}
+use lib.ListN.{length}
+use Rattle.names.proofs.NameLaws.{Cut, cut-begins, cut-goes, cut-stops, cut-ends}
 use Rattle.names.proofs.name_text.Statement.{statement}
 use Rattle.names.proofs.name_text.Tie as tie
-use Rattle.names.proofs.name_text.Reads as reads
-use Rattle.names.proofs.name_text.Lts as lts
-use Rattle.names.proofs.first_space.Reads as first-space-reads
-use Rattle.names.proofs.in_name.Reads as in-name-reads
 
 abbrev Inv-loop : tie.InvT-loop
-Inv-loop t mountain at₀ end₀ at end = ?
+Inv-loop t mountain at₀ end₀ at end = Cut mountain t at end
 
 abbrev μ-loop : tie.MeasureT-loop
-μ-loop t mountain at₀ end₀ at end = ?
+μ-loop t mountain at₀ end₀ at end = length t - end
 
--- src/lib.rt:87:9
 first-space-requires : tie.Need-first-space-requires Inv-loop μ-loop
-first-space-requires c κs = ?
+first-space-requires c κs = search needs
 
--- src/lib.rt:88:5
 loop-holds : tie.Need-loop-holds Inv-loop μ-loop
-loop-holds c = ?
+loop-holds c = cut-begins _ _ (c .first-space .ensures)
 
--- src/lib.rt:89:21
 sub-in-name : tie.Need-sub-in-name Inv-loop μ-loop
-sub-in-name c = ?
+sub-in-name c = omega arith
 
--- src/lib.rt:89:21
 part-in-name-start : tie.Need-part-in-name-start Inv-loop μ-loop
-part-in-name-start c = ?
+part-in-name-start c = search needs
 
--- src/lib.rt:89:21
 part-in-name-end : tie.Need-part-in-name-end Inv-loop μ-loop
-part-in-name-end c = ?
+part-in-name-end c = search needs
 
--- src/lib.rt:89:13
 in-name-requires : tie.Need-in-name-requires Inv-loop μ-loop
-in-name-requires c κs = ?
+in-name-requires c κs = search needs
 
--- src/lib.rt:90:13
 returns : tie.Need-returns Inv-loop μ-loop
-returns c = ?
+returns c = sym (cut-stops _ _ (c .before .before .before .before .loop .inv) (omega arith) (sym (c .before .in-name .ensures) ∙ not-true _ (c .if1 .taken)))
 
--- src/lib.rt:92:14
 add-at : tie.Need-add-at Inv-loop μ-loop
-add-at c = ?
+add-at c = omega arith
 
--- src/lib.rt:93:9
 first-space-requires-2 : tie.Need-first-space-requires-2 Inv-loop μ-loop
-first-space-requires-2 c κs = ?
+first-space-requires-2 c κs = search needs
 
--- src/lib.rt:88:5
 loop-less : tie.Need-loop-less Inv-loop μ-loop
-loop-less c = ?
+loop-less c = omega arith
 
--- src/lib.rt:88:5
 loop-again : tie.Need-loop-again Inv-loop μ-loop
-loop-again c = ?
+loop-again c = cut-goes _ _ (c .before .before .before .before .before .loop .inv) (omega arith) (sym (c .before .before .in-name .ensures) ∙ not-false _ (c .before .if1 .left)) (c .first-space2 .ensures)
 
--- src/lib.rt:95:13
 sub-in-name-2 : tie.Need-sub-in-name-2 Inv-loop μ-loop
-sub-in-name-2 c = ?
+sub-in-name-2 c = omega arith
 
--- src/lib.rt:95:13
 part-in-name-start-2 : tie.Need-part-in-name-start-2 Inv-loop μ-loop
-part-in-name-start-2 c = ?
+part-in-name-start-2 c = search needs
 
--- src/lib.rt:95:13
 part-in-name-end-2 : tie.Need-part-in-name-end-2 Inv-loop μ-loop
-part-in-name-end-2 c = ?
+part-in-name-end-2 c = search needs
 
--- src/lib.rt:95:5
 in-name-requires-2 : tie.Need-in-name-requires-2 Inv-loop μ-loop
-in-name-requires-2 c κs = ?
+in-name-requires-2 c κs = search needs
 
--- src/lib.rt:83:1
 returns-2 : tie.Need-returns-2 Inv-loop μ-loop
-returns-2 c = ?
+returns-2 c = c .in-name2 .ensures ∙ sym (cut-ends _ _ (c .before .before .before .loop .inv) (omega arith))
 
 pub name-text-spec : {M : Type 1} → statement M
 name-text-spec =

@@ -56,10 +56,12 @@ loop-less c = omega arith
 
 -- src/placing.rt:118:5
 loop-again : tie.Need-loop-again Inv-loop μ-loop
-loop-again c =
-    (search needs, omega arith,
-    c .before .before .before .before .loop .inv .2
-    ∙ from-past (samePoint (getD (c .before .before .before .before .before .before .args .t1) 0 noPoint)) (c .before .before .before .before .before .before .args .t1) (c .before .before .before .before .loop .i) noPoint (omega arith) (cc))
+loop-again c = (
+  search needs,
+  omega arith,
+  c .before .before .before .before .loop .inv .2
+      ∙ from-past (samePoint (getD (c .before .before .before .before .before .before .args .t1) 0 noPoint)) (c .before .before .before .before .before .before .args .t1) (c .before .before .before .before .loop .i) noPoint (omega arith) (cc),
+)
 
 -- src/placing.rt:113:1
 returns-2 : tie.Need-returns-2 Inv-loop μ-loop

@@ -46,14 +46,15 @@ both-requires c κs = search needs
 -- src/placing.rt:71:1
 returns-2 : tie.Need-returns-2
 unfolding goodBound
-returns-2 c = rw
-    (c .both .ensures,
-    c .before .good-latitude-side .ensures,
-    c .before .before .either .ensures,
-    c .before .before .before .good-longitude-side2 .ensures,
-    c .before .before .before .before .empty-side2 .ensures,
-    ← (c .before .before .before .before .before .before .empty-side .ensures),
-    c .before .before .before .before .before .if1 .left)
+returns-2 c = rw (
+  c .both .ensures,
+  c .before .good-latitude-side .ensures,
+  c .before .before .either .ensures,
+  c .before .before .before .good-longitude-side2 .ensures,
+  c .before .before .before .before .empty-side2 .ensures,
+  ← (c .before .before .before .before .before .before .empty-side .ensures),
+  c .before .before .before .before .before .if1 .left,
+)
 
 pub good-bound-spec : {M : Type 1} → statement M
 good-bound-spec =

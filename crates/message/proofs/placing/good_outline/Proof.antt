@@ -49,18 +49,19 @@ both-requires-2 c κs = search needs
 -- src/placing.rt:133:1
 returns-3 : tie.Need-returns-3
 unfolding goodOutline
-returns-3 c = 
+returns-3 c =
     let a = c .before .before .before .before .before .before .before .args in
     let long : length (a .points) ≡ 7 = search needs in
-    rw
-    (c .both2 .ensures,
-    c .before .both .ensures,
-    c .before .before .empty-from .ensures,
-    c .before .before .before .closing-point .ensures,
-    c .before .before .before .before .good-until .ensures,
-    le-leb 4 (a .n) (c .before .before .before .before .before .before .if1 .left),
-    le-leb (a .n) 7 (c .before .before .before .before .before .if2 .left),
-    long)
+    rw (
+      c .both2 .ensures,
+      c .before .both .ensures,
+      c .before .before .empty-from .ensures,
+      c .before .before .before .closing-point .ensures,
+      c .before .before .before .before .good-until .ensures,
+      le-leb 4 (a .n) (c .before .before .before .before .before .before .if1 .left),
+      le-leb (a .n) 7 (c .before .before .before .before .before .if2 .left),
+      long,
+    )
 
 pub good-outline-spec : {M : Type 1} → statement M
 good-outline-spec =

@@ -59,9 +59,11 @@ loop-less c = omega arith
 -- src/placing.rt:103:5
 loop-again : tie.Need-loop-again Inv-loop μ-loop
 loop-again c =
-    let at = seen (c .before .before .before .before .before .args .n) (c .before .before .before .before .before .args .t1) (c .before .before .before .before .loop .i) (omega arith) (omega arith) in
-    (search needs, omega arith,
-    c .before .before .before .before .loop .inv .2 ∙ all-past goodPoint (take (c .before .before .before .before .before .args .n) (c .before .before .before .before .before .args .t1)) (c .before .before .before .before .loop .i) noPoint (at .0) (rw (at .1) (sym (c .before .good-point .ensures) ∙ not-false _ (c .if1 .left))))
+    let at = seen (c .before .before .before .before .before .args .n) (c .before .before .before .before .before .args .t1) (c .before .before .before .before .loop .i) (omega arith) (omega arith) in (
+      search needs,
+      omega arith,
+      c .before .before .before .before .loop .inv .2 ∙ all-past goodPoint (take (c .before .before .before .before .before .args .n) (c .before .before .before .before .before .args .t1)) (c .before .before .before .before .loop .i) noPoint (at .0) (rw (at .1) (sym (c .before .good-point .ensures) ∙ not-false _ (c .if1 .left))),
+    )
 
 -- src/placing.rt:98:1
 returns-2 : tie.Need-returns-2 Inv-loop μ-loop
