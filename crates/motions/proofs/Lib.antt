@@ -1,0 +1,3 @@
+pub mod Kept
+pub mod MotionLaws
+pub mod Determined

@@ -1,30 +1,34 @@
+-- `compass_word` meets its contract: its table holds the codes of the sixteen words, in their order. Assumes nothing.
+use mathlib.Core.Path.{refl, _∙_}
+use Prim.Native.Nat.{_≤_}
+use native.Mathlib.Omega.{arith}
 use borrow.Author.Needs.{needs}
+use Rattle.lists.specs.Lists.{allOf}
+use Rattle.lists.specs.Base.{worthAfter}
+use Rattle.lists.proofs.Lists.{index-within}
+use Rattle.figures.specs.Keywords.{codeOf}
+use Rattle.motions.specs.Motions.{compassWords}
+use Rattle.motions.proofs.MotionLaws.{compass-found}
 use Rattle.motions.proofs.compass_word.Statement.{statement}
 use Rattle.motions.proofs.compass_word.Tie as tie
-use Rattle.motions.proofs.compass_word.Reads as reads
-use Rattle.motions.proofs.compass_word.Lts as lts
-use Rattle.figures.proofs.code.Reads as code-reads
-use Rattle.figures.proofs.find.Reads as find-reads
 
--- src/lib.rt:42:10
 slice-aggregate-find : tie.Need-slice-aggregate-find
 slice-aggregate-find c = search needs
 
--- src/lib.rt:42:20
 code-requires : tie.Need-code-requires
 code-requires c κs = search needs
 
--- src/lib.rt:42:5
 find-requires : tie.Need-find-requires
 find-requires c κs = search needs
 
--- src/lib.rt:42:5
 cast-result : tie.Need-cast-result
-cast-result c = ?
+cast-result c =
+    let most : c .find .result ≤ 16 = rw (c .find .ensures) (index-within _ _) in
+    omega arith
 
--- src/lib.rt:39:1
 returns : tie.Need-returns
-returns c = ?
+unfolding codeOf worthAfter allOf compassWords
+returns c = c .find .ensures ∙ compass-found _ _ _ refl (c .before .code .ensures)
 
 pub compass-word-spec : {M : Type 1} → statement M
 compass-word-spec =

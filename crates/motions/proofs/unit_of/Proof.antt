@@ -1,25 +1,29 @@
+-- `unit_of` meets its contract: a code tells the unit, or that the word is none. Assumes nothing.
+use mathlib.Core.Path.{sym, _∙_}
+use lib.Dec.{lit<}
 use borrow.Author.Needs.{needs}
+use Rattle.lists.specs.Lists.{allOf}
+use Rattle.lists.specs.Base.{worthAfter}
+use Rattle.figures.specs.Keywords.{codeOf}
+use Rattle.motions.specs.Speeds.{unitWords}
+use Rattle.motions.proofs.MotionLaws.{unit-at, unit-none}
 use Rattle.motions.proofs.unit_of.Statement.{statement}
 use Rattle.motions.proofs.unit_of.Tie as tie
-use Rattle.motions.proofs.unit_of.Reads as reads
-use Rattle.motions.proofs.unit_of.Lts as lts
-use Rattle.figures.proofs.code.Reads as code-reads
 
--- src/lib.rt:66:9
 code-requires : tie.Need-code-requires
 code-requires c κs = search needs
 
--- src/lib.rt:68:9
 returns : tie.Need-returns
-returns c = ?
+unfolding codeOf worthAfter allOf unitWords
+returns c = unit-at 0 _ (lit< tt) (sym (c .before .code .ensures) ∙ c .if1 .taken)
 
--- src/lib.rt:71:9
 returns-2 : tie.Need-returns-2
-returns-2 c = ?
+unfolding codeOf worthAfter allOf unitWords
+returns-2 c = unit-at 1 _ (lit< tt) (sym (c .before .before .code .ensures) ∙ c .if2 .taken)
 
--- src/lib.rt:63:1
 returns-3 : tie.Need-returns-3
-returns-3 c = ?
+unfolding codeOf worthAfter allOf unitWords
+returns-3 c = unit-none _ (λ e. c .before .if1 .left (c .before .before .code .ensures ∙ e)) (λ e. c .if2 .left (c .before .before .code .ensures ∙ e))
 
 pub unit-of-spec : {M : Type 1} → statement M
 unit-of-spec = tie.close (tie.spec code-requires returns returns-2 returns-3)

@@ -1,0 +1,46 @@
+-- Readers of the form `pick test (kept good none value) none`: the word passes a test, and its value is kept where it is good.
+-- Assumes nothing.
+use mathlib.Core.Bool.{Bool, true, false}
+use mathlib.Core.List.{List}
+use mathlib.Core.Logic.{_⊎_, inl, inr}
+use mathlib.Core.Path.{_≡_, refl, sym}
+use Prim.Native.Nat.{ℕ}
+use Rattle.lists.specs.Choice.{pick}
+use Rattle.lists.proofs.Choice.{by, clash}
+use Rattle.figures.specs.Reads.{Reads, kept}
+
+-- The ways out of the code of such a reader: `v` is the value as the code has it, `r` what it was told of its goodness.
+
+pub kept-untested : {A : Type 0} {test : Bool} (value none : A) → test ≡ false → none ≡ pick test value none
+kept-untested value none t = cc
+
+pub kept-good : {A : Type 0} (good : A → Bool) (none : A) {test r : Bool} {value v : A} → test ≡ true → v ≡ value → r ≡ good v → r ≡ true → v ≡ pick test (kept good none value) none
+kept-good good none t e g h = cc
+
+pub kept-bad : {A : Type 0} (good : A → Bool) (none : A) {test r : Bool} {value v : A} → test ≡ true → v ≡ value → r ≡ good v → r ≡ false → none ≡ pick test (kept good none value) none
+kept-bad good none t e g h = cc
+
+-- Such a reader and its spelling: what is left to show is that a good value's spelling passes the test and has that value, and that a
+-- word which passes the test and has a good value is its spelling.
+pub kept-reads : {A : Type 0} (test : List ℕ → Bool) (value : List ℕ → A) (spell : A → List ℕ) (good : A → Bool) (none : A)
+    → ((v : A) → good v ≡ true → test (spell v) ≡ true)
+    → ((v : A) → good v ≡ true → value (spell v) ≡ v)
+    → ((w : List ℕ) → test w ≡ true → good (value w) ≡ true → spell (value w) ≡ w)
+    → good none ≡ false
+    → Reads (λ (w : List ℕ). pick (test w) (kept good none (value w)) none) spell good none
+kept-reads test value spell good none passes gives spelled out = record {
+  forth = λ v g. sym (kept-good good none (passes v g) (sym (gives v g)) (sym g) refl);
+  back = λ w. by (test w)
+      (λ t. by (good (value w)) (λ g. inr (rw (t, g) g, rw (t, g) (spelled w t g))) (λ f. inl (rw (t, f))))
+      (λ f. inl (rw f));
+  refuses = out;
+}
+
+-- what is read as a good value is that value's spelling
+pub reads-spelled : {A : Type 0} {read : List ℕ → A} {spell : A → List ℕ} {good : A → Bool} {none : A} → Reads read spell good none
+    → (w : List ℕ) → good (read w) ≡ true → spell (read w) ≡ w
+reads-spelled {read = read} {spell = spell} {good = good} {none = none} laws w g = go (laws .back w)
+  where
+    go : (read w ≡ none) ⊎ ((good (read w) ≡ true) × (spell (read w) ≡ w)) → spell (read w) ≡ w
+    go (inl e) = clash (good (read w)) g (rw e (laws .refuses))
+    go (inr p) = p .1
