@@ -16,7 +16,7 @@ none-requires-2 c κs = search needs
 
 -- src/lib.rt:130:1
 returns : tie.Need-returns
-returns c = cc
+returns c = rw (c .before .none .ensures, c .none2 .ensures)
 
 pub empty-spec : {M : Type 1} → statement M
 empty-spec = tie.close (tie.spec none-requires none-requires-2 returns)

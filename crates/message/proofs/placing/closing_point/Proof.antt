@@ -44,7 +44,7 @@ returns : tie.Need-returns Inv-loop μ-loop
 returns c =
     sym
     (c .before .before .before .before .loop .inv .2
-    ∙ from-here (samePoint (getD (c .before .before .before .before .before .before .args .t1) 0 noPoint)) (c .before .before .before .before .before .before .args .t1) (c .before .before .before .before .loop .i) noPoint (omega arith) (cc))
+    ∙ from-here (samePoint (getD (c .before .before .before .before .before .before .args .t1) 0 noPoint)) (c .before .before .before .before .before .before .args .t1) (c .before .before .before .before .loop .i) noPoint (omega arith) (sym (c .before .same-point .ensures) ∙ c .if1 .taken))
 
 -- src/placing.rt:122:9
 add-i : tie.Need-add-i Inv-loop μ-loop
@@ -60,7 +60,7 @@ loop-again c = (
   search needs,
   omega arith,
   c .before .before .before .before .loop .inv .2
-      ∙ from-past (samePoint (getD (c .before .before .before .before .before .before .args .t1) 0 noPoint)) (c .before .before .before .before .before .before .args .t1) (c .before .before .before .before .loop .i) noPoint (omega arith) (cc),
+      ∙ from-past (samePoint (getD (c .before .before .before .before .before .before .args .t1) 0 noPoint)) (c .before .before .before .before .before .before .args .t1) (c .before .before .before .before .loop .i) noPoint (omega arith) (sym (c .before .same-point .ensures) ∙ c .if1 .left),
 )
 
 -- src/placing.rt:113:1

@@ -18,7 +18,7 @@ both-requires c κs = search needs
 -- src/placing.rt:64:1
 returns : tie.Need-returns
 unfolding emptySide
-returns c = cc
+returns c = rw (c .both .ensures, c .before .empty-coordinate .ensures)
 
 pub empty-side-spec : {M : Type 1} → statement M
 empty-side-spec = tie.close (tie.spec empty-coordinate-requires both-requires returns)

@@ -23,7 +23,7 @@ both-requires c κs = search needs
 -- src/placing.rt:50:1
 returns : tie.Need-returns
 unfolding goodSide
-returns c = cc
+returns c = rw (c .both .ensures, c .before .good-latitude .ensures, c .before .before .either .ensures)
 
 pub good-latitude-side-spec : {M : Type 1} → statement M
 good-latitude-side-spec =

@@ -11,7 +11,7 @@ no-point-requires c κs = search needs
 
 -- src/placing.rt:40:1
 returns : tie.Need-returns
-returns c = cc
+returns c = rw (c .no-point .ensures)
 
 pub none-spec : {M : Type 1} → statement M
 none-spec = tie.close (tie.spec no-point-requires returns)

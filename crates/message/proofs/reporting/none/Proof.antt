@@ -21,7 +21,7 @@ none-requires-2 c κs = search needs
 
 -- src/reporting.rt:24:1
 returns : tie.Need-returns
-returns c = cc
+returns c = rw (c .before .before .none .ensures, c .before .no-point .ensures, c .none2 .ensures)
 
 pub none-spec : {M : Type 1} → statement M
 none-spec = tie.close (tie.spec none-requires no-point-requires none-requires-2 returns)
