@@ -39,9 +39,9 @@ compass-distinct : distinct compassWords ≡ true
 unfolding compassWords distinct allOf same
 compass-distinct = refl
 
--- a table of the compass points' codes finds the point's number
-pub compass-found : (codes : List ℕ) (x : ℕ) (w : List ℕ) → codes ≡ map codeOf compassWords → x ≡ codeOf w → indexOf (eqb x) codes ≡ compassOf w
-compass-found codes x w p q = rw (p, q) (find-word compassWords w compass-short)
+-- what is found in a table of the compass points' codes is the point's number
+pub compass-found : (n : ℕ) (codes : List ℕ) (x : ℕ) (w : List ℕ) → n ≡ indexOf (eqb x) codes → x ≡ codeOf w → codes ≡ map codeOf compassWords → n ≡ compassOf w
+compass-found n codes x w f q p = rw (f, p, q) (find-word compassWords w compass-short)
 
 pub compass-reads : Reads compassOf spellCompass goodCompass 16
 unfolding compassWords

@@ -1,5 +1,5 @@
 -- `compass_word` meets its contract: its table holds the codes of the sixteen words, in their order. Assumes nothing.
-use mathlib.Core.Path.{refl, _∙_}
+use mathlib.Core.Path.{refl}
 use Prim.Native.Nat.{_≤_}
 use native.Mathlib.Omega.{arith}
 use borrow.Author.Needs.{needs}
@@ -28,7 +28,7 @@ cast-result c =
 
 returns : tie.Need-returns
 unfolding codeOf worthAfter allOf compassWords
-returns c = c .find .ensures ∙ compass-found _ _ _ refl (c .before .code .ensures)
+returns c = compass-found _ _ _ _ (c .find .ensures) (c .before .code .ensures) refl
 
 pub compass-word-spec : {M : Type 1} → statement M
 compass-word-spec =
