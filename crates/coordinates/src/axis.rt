@@ -25,7 +25,7 @@ fn is_counted(c: Coordinate, greatest: u16) -> bool
     both(c.degrees <= greatest, both(c.minutes <= 59, whole))
 }
 
-pub fn good(c: Coordinate, width: u8, greatest: u16, plus: u8, minus: u8) -> bool
+pub(crate) fn good(c: Coordinate, width: u8, greatest: u16, plus: u8, minus: u8) -> bool
     requires { ⌜ width ≤ 3 ⌝ }
     ensures { λ r. ⌜ r ≡ goodCoordinate (record { width = width; greatest = greatest; plus = plus; minus = minus }) c ⌝ }
 {
@@ -47,7 +47,7 @@ fn keep(c: Coordinate, good: bool) -> Coordinate
     }
 }
 
-pub fn coordinate(w: &[u8], width: u8, greatest: u16, plus: u8, minus: u8) -> Coordinate
+pub(crate) fn coordinate(w: &[u8], width: u8, greatest: u16, plus: u8, minus: u8) -> Coordinate
     requires { ⌜ width ≤ 3 ⌝ }
     ensures { λ r. ⌜ r ≡ coordinateOf (record { width = width; greatest = greatest; plus = plus; minus = minus }) (now (w .entry)) ⌝ }
 {

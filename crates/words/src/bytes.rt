@@ -4,13 +4,13 @@ ghost use Rattle.words.specs.Bytes.{blank, allowed};
 use lists::both;
 use lists::either;
 
-pub fn is_blank(x: u8) -> bool
+pub(crate) fn is_blank(x: u8) -> bool
     ensures { λ r. ⌜ r ≡ blank x ⌝ }
 {
     either(x == 32, either(x == 13, x == 10))
 }
 
-pub fn is_allowed(x: u8) -> bool
+pub(crate) fn is_allowed(x: u8) -> bool
     ensures { λ r. ⌜ r ≡ allowed x ⌝ }
 {
     let letter = both(65 <= x, x <= 90);

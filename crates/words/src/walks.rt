@@ -5,7 +5,7 @@ ghost use Rattle.words.specs.Bytes.{blank, solid, equals, barred};
 use crate::bytes::is_allowed;
 use crate::bytes::is_blank;
 
-pub fn first_barred(b: &[u8]) -> usize
+pub(crate) fn first_barred(b: &[u8]) -> usize
     ensures { λ r. ⌜ r ≡ indexOf barred (now (b .entry)) ⌝ }
 {
     let mut i = 0;
@@ -18,7 +18,7 @@ pub fn first_barred(b: &[u8]) -> usize
     i
 }
 
-pub fn first_equals(b: &[u8]) -> usize
+pub(crate) fn first_equals(b: &[u8]) -> usize
     ensures { λ r. ⌜ r ≡ indexOf equals (now (b .entry)) ⌝ }
 {
     let mut at = 0;
@@ -31,7 +31,7 @@ pub fn first_equals(b: &[u8]) -> usize
     at
 }
 
-pub fn first_solid(b: &[u8], start: usize) -> usize
+pub(crate) fn first_solid(b: &[u8], start: usize) -> usize
     ensures { λ r. ⌜ r ≡ indexFrom solid start (now (b .entry)) ⌝ }
 {
     let mut i = start;
@@ -44,7 +44,7 @@ pub fn first_solid(b: &[u8], start: usize) -> usize
     i
 }
 
-pub fn first_blank(b: &[u8], start: usize) -> usize
+pub(crate) fn first_blank(b: &[u8], start: usize) -> usize
     ensures { λ r. ⌜ r ≡ indexFrom blank start (now (b .entry)) ⌝ }
 {
     let mut i = start;
