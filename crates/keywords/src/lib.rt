@@ -1,0 +1,83 @@
+// The fixed words of the paper that have no table of their own: phenomenon words and keywords, by number.
+ghost use mathlib.Core.Path.{_≡_};
+ghost use Rattle.keywords.specs.Keywords.{keywordOf};
+
+use figures::code;
+use figures::find;
+use lists::both;
+
+// The codes of the words of at most seven bytes, in the order of the definition.
+const SHORT: [u64; 41] = [
+    0x01_53_49_47_4d_45_54,
+    0x01_56_41_4c_49_44,
+    0x01_54_45_53_54,
+    0x01_50_4c_45_41_53_45,
+    0x01_54_45_53_54_2e,
+    0x01_54_48_49_53,
+    0x01_49_53,
+    0x01_41,
+    0x01_53_49_47_4d_45_54_2c,
+    0x01_43_4e_4c,
+    0x01_4f_42_53_43,
+    0x01_45_4d_42_44,
+    0x01_46_52_51,
+    0x01_53_51_4c,
+    0x01_54_53,
+    0x01_54_53_47_52,
+    0x01_53_45_56,
+    0x01_54_55_52_42,
+    0x01_49_43_45,
+    0x01_28_46_5a_52_41_29,
+    0x01_4d_54_57,
+    0x01_48_56_59,
+    0x01_44_53,
+    0x01_53_53,
+    0x01_52_44_4f_41_43_54,
+    0x01_43_4c_44,
+    0x01_56_41,
+    0x01_4d_54,
+    0x01_50_53_4e,
+    0x01_4f_42_53,
+    0x01_46_43_53_54,
+    0x01_41_54,
+    0x01_4f_46,
+    0x01_41_4e_44,
+    0x01_45_4e_54_49_52_45,
+    0x01_57_49,
+    0x01_2d,
+    0x01_54_4f_50,
+    0x01_41_42_56,
+    0x01_4d_4f_56,
+    0x01_53_54_4e_52,
+];
+
+// The number of a keyword, from 1 on; 0 of any other word.
+pub fn keyword(w: &[u8]) -> u8
+    ensures { λ r. ⌜ r ≡ keywordOf (now (w .entry)) ⌝ }
+{
+    let length = w.len();
+    if length < 8 {
+        return short_keyword(w);
+    }
+    if length == 8 {
+        return if both(code(&w[0..4]) == 0x01_45_52_55_50, code(&w[4..8]) == 0x01_54_49_4f_4e) {
+            42
+        } else {
+            0
+        };
+    }
+    if length == 9 {
+        return if both(code(&w[0..4]) == 0x01_44_49_53_52, code(&w[4..9]) == 0x01_45_47_41_52_44) {
+            43
+        } else {
+            0
+        };
+    }
+    0
+}
+
+// The same for a word of at most seven bytes.
+fn short_keyword(w: &[u8]) -> u8 {
+    let n = find(&SHORT, code(w));
+    if n < 41 { (n + 1) as u8 } else { 0 }
+}
