@@ -1,7 +1,6 @@
 // The fixed words of the paper that have no table of their own: phenomenon words and keywords, by number.
 ghost use mathlib.Core.Path.{_≡_};
 ghost use Rattle.keywords.specs.Keywords.{keywordOf};
-
 use figures::code;
 use figures::find;
 use lists::both;
@@ -60,14 +59,20 @@ pub fn keyword(w: &[u8]) -> u8
         return short_keyword(w);
     }
     if length == 8 {
-        return if both(code(&w[0..4]) == 0x01_45_52_55_50, code(&w[4..8]) == 0x01_54_49_4f_4e) {
+        return if both(
+            code(&w[0..4]) == 0x01_45_52_55_50,
+            code(&w[4..8]) == 0x01_54_49_4f_4e,
+        ) {
             42
         } else {
             0
         };
     }
     if length == 9 {
-        return if both(code(&w[0..4]) == 0x01_44_49_53_52, code(&w[4..9]) == 0x01_45_47_41_52_44) {
+        return if both(
+            code(&w[0..4]) == 0x01_44_49_53_52,
+            code(&w[4..9]) == 0x01_45_47_41_52_44,
+        ) {
             43
         } else {
             0

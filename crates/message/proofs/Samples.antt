@@ -17,7 +17,7 @@ use Rattle.headings.specs.Sequences.{goodSequence, spellSequence}
 use Rattle.motions.specs.Speeds.{unitWords, goodSpeed, spellSpeed}
 use Rattle.motions.specs.Motions.{compassWords, intensityWords}
 use Rattle.message.specs.Names.{goodName, emptyName}
-use Rattle.message.specs.Places.{goodSide, emptySide, goodBound, noPoints, goodOutline, goodPlace, emptyPlace, boundWords, dashed, joined, placeWords}
+use Rattle.message.specs.Locations.{goodSide, emptySide, goodBound, noPoints, goodOutline, goodExtent, emptyExtent, boundWords, dashed, joined, extentWords}
 use Rattle.message.specs.Records.{goodHeading, goodLine, goodArea, namesItself, goodForm, good}
 use Rattle.message.specs.Reports.{phenomena, goodVolcano, emptyVolcano, goodPhenomenon, phenomenonWords, goodObservation, emptyObservation, observationWords, goodEnding, emptyEnding, endingWords, goodReport, emptyReport, reportWords}
 use Rattle.message.specs.Sample.{sample, sampleText}
@@ -25,12 +25,12 @@ use Rattle.message.specs.Words.{headingWords, lineWords, areaWords, test
 
 pub sample-good : good sample ≡ true
 unfolding
-    good sample goodHeading goodLine goodArea goodForm goodReport goodDesignator goodLetters goodGroup goodPeriod goodSequence goodName goodPhenomenon goodObservation goodPlace goodLevel goodEnding emptyVolcano emptyName emptyPoint emptyCoordinate emptySide goodBound goodSide goodCoordinate noPoints emptyPlace goodLevelWord goodSpeed unitWords intensityWords closingWords typeWords worthAfter places allOf nameText pieces nameWord indexOf same goodTime compassWords
+    good sample goodHeading goodLine goodArea goodForm goodReport goodDesignator goodLetters goodGroup goodPeriod goodSequence goodName goodPhenomenon goodObservation goodExtent goodLevel goodEnding emptyVolcano emptyName emptyPoint emptyCoordinate emptySide goodBound goodSide goodCoordinate noPoints emptyExtent goodLevelWord goodSpeed unitWords intensityWords closingWords typeWords worthAfter places allOf nameText pieces nameWord indexOf same goodTime compassWords
 sample-good = refl
 
 pub sample-text : textOf sample ≡ sampleText
 unfolding
-    textOf sample sampleText headingWords lineWords bodyWords areaWords formWords reportWords phenomenonWords observationWords placeWords levelWords endingWords spellDesignator spellGroup spellPeriod spellSequence spellTime spellLevelWord spellSpeed spellCoordinate boundWords emptySide emptyCoordinate phenomena compassWords intensityWords closingWords typeWords unitWords worthAfter places pieces line emptyName allOf
+    textOf sample sampleText headingWords lineWords bodyWords areaWords formWords reportWords phenomenonWords observationWords extentWords levelWords endingWords spellDesignator spellGroup spellPeriod spellSequence spellTime spellLevelWord spellSpeed spellCoordinate boundWords emptySide emptyCoordinate phenomena compassWords intensityWords closingWords typeWords unitWords worthAfter places pieces line emptyName allOf
 sample-text = refl
 
 pub sample-length : length sampleText ≡ 130

@@ -11,7 +11,7 @@ use Rattle.message.specs.declared.Record.{Record}
 abbrev pub noRecord : Record
 noRecord =
     record {
-      heading = record { designator = noDesignator; centre = 0; time = noGroup; correction = 0 };
+      heading = record { designator = noDesignator; centre = 0; sent = noGroup; correction = 0 };
       line = record { unit = 0; sequence = noSequence; valid = noPeriod; office = 0 };
       area = record { indicator = 0; name = noName; closing = 0 };
       form = NoForm;

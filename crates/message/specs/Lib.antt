@@ -1,6 +1,6 @@
 pub mod Limits
 pub mod Names
-pub mod Places
+pub mod Locations
 pub mod Reports
 pub mod Records
 pub mod Words

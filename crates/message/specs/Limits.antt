@@ -1,18 +1,14 @@
--- The numbers of the paper that a later request may change, each named once.
+-- The numbers of the paper that bound a record, each named once.
 -- Assumes nothing.
 use Prim.Native.Nat.{ℕ}
 
--- "with single spaces it has at most 50 characters"
-abbrev pub areaLimit : ℕ
-areaLimit = 50
+-- "with single spaces it has at most 50 characters": so many bytes are kept of any name
+abbrev pub nameBytes : ℕ
+nameBytes = 50
 
 -- "rules as above, 30 characters"
 abbrev pub mountainLimit : ℕ
 mountainLimit = 30
-
--- how many bytes a record keeps of a name
-abbrev pub nameBytes : ℕ
-nameBytes = 50
 
 -- "`WI` and 4 to 7 points"
 abbrev pub leastPoints : ℕ
@@ -20,3 +16,21 @@ leastPoints = 4
 
 abbrev pub mostPoints : ℕ
 mostPoints = 7
+
+-- the kinds of bulletin, as the listing numbers them
+abbrev pub ws : ℕ
+ws = 2
+
+abbrev pub wv : ℕ
+wv = 3
+
+-- the closing word of a CTA
+abbrev pub cta : ℕ
+cta = 3
+
+-- the phenomena of a WV: a cloud, and a cloud with the eruption that it comes from
+abbrev pub ashCloud : ℕ
+ashCloud = 16
+
+abbrev pub eruption : ℕ
+eruption = 17

@@ -1,4 +1,4 @@
--- 01, the whole record: heading, first line, area, and then "one of: a test; a cancellation; a report".
+-- 01, the whole record: heading, first line, area, and "Then one of: a test: …; a cancellation: …; a report: …".
 -- "a record with anything else there, or with any part outside the rules above, is a bad record, and every other is good."
 -- Assumes nothing.
 use mathlib.Core.Bool.{Bool, false, not}
@@ -7,15 +7,15 @@ use lib.Dec.{eqb}
 use Rattle.lists.specs.Choice.{both, either}
 use Rattle.words.specs.Bytes.{between}
 use Rattle.figures.specs.Letters.{goodLetters}
-use Rattle.groups.specs.Groups.{goodGroup, goodPeriod, noGroup, noPeriod}
-use Rattle.headings.specs.Headings.{goodDesignator, goodCorrection, noDesignator}
-use Rattle.headings.specs.Sequences.{goodSequence, noSequence}
+use Rattle.groups.specs.Groups.{goodGroup, goodPeriod}
+use Rattle.headings.specs.Headings.{goodDesignator, goodCorrection}
+use Rattle.headings.specs.Sequences.{goodSequence}
 use Rattle.names.specs.Names.{goodClosing}
 use Rattle.groups.specs.declared.Group.{Group}
 use Rattle.headings.specs.declared.Sequence.{Sequence}
-use Rattle.message.specs.Limits.{areaLimit}
-use Rattle.message.specs.Names.{goodName, noName}
-use Rattle.message.specs.Reports.{goodReport, emptyReport, noReport}
+use Rattle.message.specs.Limits.{nameBytes}
+use Rattle.message.specs.Names.{goodName}
+use Rattle.message.specs.Reports.{goodReport, emptyReport}
 use Rattle.message.specs.declared.Area.{Area}
 use Rattle.message.specs.declared.FirstLine.{FirstLine}
 use Rattle.message.specs.declared.Form.{Form}
@@ -29,7 +29,7 @@ use Rattle.message.specs.declared.Report.{Report}
 unfoldable pub goodHeading : Heading → Bool
 goodHeading h =
     both (goodDesignator (h .designator))
-    (both (goodLetters 4 (h .centre)) (both (goodGroup (h .time)) (either (eqb (h .correction) 0) (goodCorrection (h .correction)))))
+    (both (goodLetters 4 (h .centre)) (both (goodGroup (h .sent)) (either (eqb (h .correction) 0) (goodCorrection (h .correction)))))
 
 -- "First line: four letters (unit), `SIGMET`, sequence, `VALID`, `group/group`, four letters and a hyphen."
 unfoldable pub goodLine : FirstLine → Bool
@@ -37,7 +37,7 @@ goodLine l = both (goodLetters 4 (l .unit)) (both (goodSequence (l .sequence)) (
 
 -- "four letters (area; it may differ from the unit), a name, then `FIR`, `FIR/UIR` or `CTA`"
 unfoldable pub goodArea : Area → Bool
-goodArea a = both (goodLetters 4 (a .indicator)) (both (goodName false areaLimit (a .name)) (goodClosing (a .closing)))
+goodArea a = both (goodLetters 4 (a .indicator)) (both (goodName false nameBytes (a .name)) (goodClosing (a .closing)))
 
 abbrev pub sameSequence : Sequence → Sequence → Bool
 sameSequence s t = both (eqb (s .letter) (t .letter)) (both (eqb (s .digits) (t .digits)) (eqb (s .number) (t .number)))

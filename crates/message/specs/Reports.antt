@@ -3,8 +3,8 @@
 use mathlib.Core.Bool.{Bool, true, false, not}
 use mathlib.Core.List.{List, [], _∷_, _++_}
 use Prim.Native.Nat.{ℕ, _-_}
-use lib.Dec.{leb, eqb}
-use lib.ListN.{getD, take}
+use lib.Dec.{eqb}
+use lib.ListN.{getD}
 use Rattle.lists.specs.Choice.{pick, both, either}
 use Rattle.lists.specs.Text.{bytes}
 use Rattle.words.specs.Bytes.{between}
@@ -13,16 +13,15 @@ use Rattle.groups.specs.Groups.{goodTime, spellTime}
 use Rattle.levels.specs.Levels.{goodLevel, emptyLevel, levelWords}
 use Rattle.motions.specs.Speeds.{goodSpeed, spellSpeed}
 use Rattle.motions.specs.Motions.{goodCompass, spellCompass, goodIntensity, spellIntensity}
-use Rattle.levels.specs.declared.Level.{Level}
 use Rattle.levels.specs.declared.Level.the-variants.{NoLevel}
 use Rattle.groups.specs.declared.Time.{Time}
-use Rattle.message.specs.Limits.{mountainLimit}
+use Rattle.message.specs.Limits.{mountainLimit, ws, wv, ashCloud, eruption}
 use Rattle.message.specs.Names.{goodName, emptyName, noName, nameWords}
-use Rattle.message.specs.Places.{goodPlace, emptyPlace, noPlace, placeWords}
+use Rattle.message.specs.Locations.{goodExtent, emptyExtent, noExtent, extentWords}
 use Rattle.message.specs.declared.Ending.{Ending}
 use Rattle.message.specs.declared.Ending.the-variants.{NoEnding, Moving, Stationary, Forecast}
 use Rattle.message.specs.declared.Observation.{Observation}
-use Rattle.message.specs.declared.Place.{Place}
+use Rattle.message.specs.declared.Extent.{Extent}
 use Rattle.message.specs.declared.Report.{Report}
 use Rattle.message.specs.declared.Volcano.{Volcano}
 
@@ -59,11 +58,11 @@ emptyVolcano v = both (emptyName (v .name)) (emptyPoint (v .position))
 abbrev pub noVolcano : Volcano
 noVolcano = record { name = noName; position = noPoint }
 
--- WS (kind 2) has the first fifteen, WV (kind 3) the last two; only the last tells of a volcano
+-- a WS has the phenomena before the cloud of ash, a WV the last two; only an eruption tells of a volcano
 unfoldable pub goodPhenomenon : ℕ → ℕ → Volcano → Bool
 goodPhenomenon kind n v =
-    either (both (eqb kind 2) (both (between 1 15 n) (emptyVolcano v)))
-    (both (eqb kind 3) (either (both (eqb n 16) (emptyVolcano v)) (both (eqb n 17) (goodVolcano v))))
+    either (both (eqb kind ws) (both (between 1 15 n) (emptyVolcano v)))
+    (both (eqb kind wv) (either (both (eqb n ashCloud) (emptyVolcano v)) (both (eqb n eruption) (goodVolcano v))))
 
 abbrev pub mountWords : Volcano → List (List ℕ)
 mountWords v = pick (emptyName (v .name)) [] (bytes "MT" ∷ nameWords (v .name))
@@ -72,7 +71,7 @@ abbrev pub volcanoWords : Volcano → List (List ℕ)
 volcanoWords v = mountWords v ++ (bytes "PSN" ∷ (pointWords (v .position) ++ (bytes "VA" ∷ bytes "CLD" ∷ [])))
 
 unfoldable pub phenomenonWords : ℕ → Volcano → List (List ℕ)
-phenomenonWords n v = getD phenomena (n - 1) [] ++ pick (eqb n 17) (volcanoWords v) []
+phenomenonWords n v = getD phenomena (n - 1) [] ++ pick (eqb n eruption) (volcanoWords v) []
 
 -- "Observation: `OBS` or `FCST`, perhaps `AT GGggZ`."
 unfoldable pub goodObservation : Observation → Bool
@@ -91,11 +90,11 @@ observationWords o =
 
 -- "Ending: either `MOV`, a compass point, `nnKT` or `nnKMH` (01 to 99), or `STNR`, then `INTSF`, `WKN` or `NC`; or, in WS only, the
 -- intensity word first and then `FCST AT GGggZ` and a location, …. Exactly one of the two."
-unfoldable pub goodEnding : ℕ → Ending → Place → Bool
+unfoldable pub goodEnding : ℕ → Ending → Extent → Bool
 goodEnding kind NoEnding f = false
-goodEnding kind (Moving d s i) f = both (both (goodCompass d) (both (goodSpeed s) (goodIntensity i))) (emptyPlace f)
-goodEnding kind (Stationary i) f = both (goodIntensity i) (emptyPlace f)
-goodEnding kind (Forecast i) f = both (both (eqb kind 2) (goodIntensity i)) (goodPlace f)
+goodEnding kind (Moving d s i) f = both (both (goodCompass d) (both (goodSpeed s) (goodIntensity i))) (emptyExtent f)
+goodEnding kind (Stationary i) f = both (goodIntensity i) (emptyExtent f)
+goodEnding kind (Forecast i) f = both (both (eqb kind ws) (goodIntensity i)) (goodExtent f)
 
 unfoldable pub emptyEnding : Ending → Bool
 emptyEnding NoEnding = true
@@ -104,31 +103,31 @@ emptyEnding (Stationary i) = false
 emptyEnding (Forecast i) = false
 
 -- "the time being that of the end of VALID", the area's closing word telling what the entire area is called
-unfoldable pub endingWords : Time → ℕ → Ending → Place → List (List ℕ)
+unfoldable pub endingWords : Time → ℕ → Ending → Extent → List (List ℕ)
 endingWords end closing NoEnding f = []
 endingWords end closing (Moving d s i) f = bytes "MOV" ∷ spellCompass d ∷ spellSpeed s ∷ spellIntensity i ∷ []
 endingWords end closing (Stationary i) f = bytes "STNR" ∷ spellIntensity i ∷ []
-endingWords end closing (Forecast i) f = spellIntensity i ∷ bytes "FCST" ∷ bytes "AT" ∷ spellTime end ∷ placeWords closing f
+endingWords end closing (Forecast i) f = spellIntensity i ∷ bytes "FCST" ∷ bytes "AT" ∷ spellTime end ∷ extentWords closing f
 
 -- a report of a bulletin of that kind
 unfoldable pub goodReport : ℕ → Report → Bool
 goodReport kind r =
     both (goodPhenomenon kind (r .phenomenon) (r .volcano))
     (both (goodObservation (r .observation))
-    (both (goodPlace (r .place)) (both (goodLevel (r .level)) (goodEnding kind (r .ending) (r .forecast)))))
+    (both (goodExtent (r .extent)) (both (goodLevel (r .level)) (goodEnding kind (r .ending) (r .forecast)))))
 
 unfoldable pub emptyReport : Report → Bool
 emptyReport r =
     both (both (eqb (r .phenomenon) 0) (emptyVolcano (r .volcano)))
     (both (emptyObservation (r .observation))
-    (both (emptyPlace (r .place)) (both (emptyLevel (r .level)) (both (emptyEnding (r .ending)) (emptyPlace (r .forecast))))))
+    (both (emptyExtent (r .extent)) (both (emptyLevel (r .level)) (both (emptyEnding (r .ending)) (emptyExtent (r .forecast))))))
 
 abbrev pub noReport : Report
 noReport =
-    record { phenomenon = 0; volcano = noVolcano; observation = noObservation; place = noPlace; level = NoLevel; ending = NoEnding; forecast = noPlace }
+    record { phenomenon = 0; volcano = noVolcano; observation = noObservation; extent = noExtent; level = NoLevel; ending = NoEnding; forecast = noExtent }
 
 unfoldable pub reportWords : Time → ℕ → Report → List (List ℕ)
 reportWords end closing r =
     phenomenonWords (r .phenomenon) (r .volcano)
     ++ (observationWords (r .observation)
-    ++ (placeWords closing (r .place) ++ (levelWords (r .level) ++ endingWords end closing (r .ending) (r .forecast))))
+    ++ (extentWords closing (r .extent) ++ (levelWords (r .level) ++ endingWords end closing (r .ending) (r .forecast))))

@@ -10,11 +10,9 @@ use Rattle.lists.specs.Text.{bytes}
 use Rattle.coordinates.specs.declared.Coordinate.{Coordinate}
 use Rattle.groups.specs.declared.Group.{Group}
 use Rattle.levels.specs.declared.Level.the-variants.{SurfaceFlight}
-use Rattle.message.specs.Names.{noName}
-use Rattle.message.specs.Places.{noSide, noPlace}
+use Rattle.message.specs.Locations.{noSide, noExtent}
 use Rattle.message.specs.Reports.{noVolcano}
 use Rattle.message.specs.Words.{newLine}
-use Rattle.coordinates.specs.Points.{noPoint}
 use Rattle.message.specs.declared.Ending.the-variants.{Moving}
 use Rattle.message.specs.declared.Form.the-variants.{Reported}
 use Rattle.message.specs.declared.Location.the-variants.{Bounded}
@@ -34,7 +32,7 @@ sample =
           record {
             designator = record { kind = 2; region = worth 256 (bytes "ZZ"); number = 31 };
             centre = worth 256 (bytes "QAAA");
-            time = dayAndTime 18 8 30;
+            sent = dayAndTime 18 8 30;
             correction = 0;
           };
       line =
@@ -56,10 +54,10 @@ sample =
             phenomenon = 10;
             volcano = noVolcano;
             observation = record { word = 2; timed = false; time = record { hour = 0; minute = 0 } };
-            place = record { location = Bounded (record { latitude = noSide; longitude = record { of = code "E"; at = E114 } }); points = replicate 7 noPoint };
+            extent = record { location = Bounded (record { latitude = noSide; longitude = record { of = code "E"; at = E114 } }); points = noExtent .points };
             level = SurfaceFlight 100;
             ending = Moving 4 (record { value = 20; unit = 1 }) 2;
-            forecast = noPlace;
+            forecast = noExtent;
           };
     }
 

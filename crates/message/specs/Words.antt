@@ -30,7 +30,7 @@ abbrev pub correctionWords : ℕ → List (List ℕ)
 correctionWords c = pick (eqb c 0) [] (spellCorrection c ∷ [])
 
 unfoldable pub headingWords : Heading → List (List ℕ)
-headingWords h = spellDesignator (h .designator) ∷ inLetters 4 (h .centre) ∷ spellGroup (h .time) ∷ correctionWords (h .correction)
+headingWords h = spellDesignator (h .designator) ∷ inLetters 4 (h .centre) ∷ spellGroup (h .sent) ∷ correctionWords (h .correction)
 
 unfoldable pub lineWords : FirstLine → List (List ℕ)
 lineWords l =

@@ -3,8 +3,8 @@ ghost use mathlib.Core.Path.{_≡_};
 ghost use Rattle.message.specs.Empty.{noRecord};
 ghost use Rattle.message.specs.Records.{goodHeading, goodLine, goodArea, sameSequence, sameGroup, namesItself, goodCancellation, goodForm, good};
 
+mod locating;
 mod naming;
-mod placing;
 mod reporting;
 
 use coordinates::Coordinate;
@@ -29,7 +29,7 @@ use motions::Speed;
 pub struct Heading {
     pub designator: Designator,
     pub centre: u32,
-    pub time: Group,
+    pub sent: Group,
     pub correction: u8,
 }
 
@@ -85,7 +85,7 @@ pub struct Bound {
     pub longitude: Side,
 }
 
-// Exactly one of three things: a bound, an outline of so many points, or the entire area.
+// Exactly one of three things: a bound, an outline of so many points, or the entire area. `Nowhere` is the empty case.
 pub enum Location {
     Nowhere,
     Bounded(Bound),
@@ -93,8 +93,8 @@ pub enum Location {
     Entire,
 }
 
-// A location with the points of its outline.
-pub struct Place {
+// A location with the points of its outline beside it.
+pub struct Extent {
     pub location: Location,
     pub points: [Point; 7],
 }
@@ -107,15 +107,15 @@ pub enum Ending {
     Forecast(u8),
 }
 
-// The phenomenon is 1 to 17, in the paper's order.
+// The phenomenon is 1 to 17, in the paper's order, and 0 in no report.
 pub struct Report {
     pub phenomenon: u8,
     pub volcano: Volcano,
     pub observation: Observation,
-    pub place: Place,
+    pub extent: Extent,
     pub level: Level,
     pub ending: Ending,
-    pub forecast: Place,
+    pub forecast: Extent,
 }
 
 pub struct Record {
@@ -143,7 +143,7 @@ pub fn empty() -> Record
     let heading = Heading {
         designator,
         centre: 0,
-        time: group,
+        sent: group,
         correction: 0,
     };
     let sequence = Sequence {
@@ -181,11 +181,11 @@ fn good_heading(h: Heading) -> bool
     ensures { λ r. ⌜ r ≡ goodHeading h ⌝ }
 {
     let designator = h.designator;
-    let time = h.time;
+    let sent = h.sent;
     let correction = either(h.correction == 0, good_correction(h.correction));
     both(
         good_designator(designator),
-        both(four_letters(h.centre), both(good_group(time), correction)),
+        both(four_letters(h.centre), both(good_group(sent), correction)),
     )
 }
 

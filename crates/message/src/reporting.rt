@@ -3,12 +3,12 @@ ghost use mathlib.Core.Path.{_≡_};
 ghost use Rattle.motions.specs.Motions.{goodIntensity};
 ghost use Rattle.message.specs.Reports.{goodVolcano, emptyVolcano, goodPhenomenon, goodObservation, emptyObservation, goodEnding, emptyEnding, goodReport, emptyReport, noReport};
 use crate::Ending;
+use crate::Extent;
 use crate::Observation;
-use crate::Place;
 use crate::Report;
 use crate::Volcano;
+use crate::locating;
 use crate::naming;
-use crate::placing;
 use coordinates::empty_point;
 use coordinates::good_point;
 use groups::Time;
@@ -24,7 +24,7 @@ pub(crate) fn none() -> Report
     ensures { λ r. ⌜ r ≡ noReport ⌝ }
 {
     let mount = naming::none();
-    let position = placing::no_point();
+    let position = locating::no_point();
     let volcano = Volcano {
         name: mount,
         position,
@@ -35,12 +35,12 @@ pub(crate) fn none() -> Report
         timed: false,
         time,
     };
-    let nowhere = placing::none();
+    let nowhere = locating::none();
     Report {
         phenomenon: 0,
         volcano,
         observation,
-        place: nowhere,
+        extent: nowhere,
         level: Level::NoLevel,
         ending: Ending::NoEnding,
         forecast: nowhere,
@@ -101,17 +101,17 @@ fn good_intensity(n: u8) -> bool
     both(1 <= n, n <= 3)
 }
 
-fn good_ending(kind: u8, e: Ending, f: Place) -> bool
+fn good_ending(kind: u8, e: Ending, f: Extent) -> bool
     ensures { λ r. ⌜ r ≡ goodEnding kind e f ⌝ }
 {
     match e {
         Ending::NoEnding => false,
         Ending::Moving(point, s, n) => both(
             both(point < 16, both(good_speed(s), good_intensity(n))),
-            placing::is_empty(f),
+            locating::is_empty(f),
         ),
-        Ending::Stationary(n) => both(good_intensity(n), placing::is_empty(f)),
-        Ending::Forecast(n) => both(both(kind == 2, good_intensity(n)), placing::good(f)),
+        Ending::Stationary(n) => both(good_intensity(n), locating::is_empty(f)),
+        Ending::Forecast(n) => both(both(kind == 2, good_intensity(n)), locating::good(f)),
     }
 }
 
@@ -131,14 +131,14 @@ pub(crate) fn good(kind: u8, r: Report) -> bool
 {
     let volcano = r.volcano;
     let observation = r.observation;
-    let place = r.place;
+    let extent = r.extent;
     let level = r.level;
     let ending = r.ending;
     let forecast = r.forecast;
     let end = both(good_level(level), good_ending(kind, ending, forecast));
     let middle = both(
         good_observation(observation),
-        both(placing::good(place), end),
+        both(locating::good(extent), end),
     );
     both(good_phenomenon(kind, r.phenomenon, volcano), middle)
 }
@@ -148,20 +148,20 @@ pub(crate) fn is_empty(r: Report) -> bool
 {
     let volcano = r.volcano;
     let observation = r.observation;
-    let place = r.place;
+    let extent = r.extent;
     let level = r.level;
     let ending = r.ending;
     let forecast = r.forecast;
     let phenomenon = both(r.phenomenon == 0, empty_volcano(volcano));
     let end = both(
         empty_level(level),
-        both(empty_ending(ending), placing::is_empty(forecast)),
+        both(empty_ending(ending), locating::is_empty(forecast)),
     );
     both(
         phenomenon,
         both(
             empty_observation(observation),
-            both(placing::is_empty(place), end),
+            both(locating::is_empty(extent), end),
         ),
     )
 }

@@ -6,7 +6,7 @@ use Rattle.message.proofs.reporting.good.Reads as reads
 use Rattle.message.proofs.reporting.good.Lts as lts
 use Rattle.levels.proofs.good_level.Reads as good-level-reads
 use Rattle.lists.proofs.both.Reads as both-reads
-use Rattle.message.proofs.placing.good.Reads as good-reads
+use Rattle.message.proofs.locating.good.Reads as good-reads
 use Rattle.message.proofs.reporting.good_ending.Reads as good-ending-reads
 use Rattle.message.proofs.reporting.good_observation.Reads as good-observation-reads
 use Rattle.message.proofs.reporting.good_phenomenon.Reads as good-phenomenon-reads

@@ -6,8 +6,8 @@ use Rattle.message.proofs.reporting.good_ending.Tie as tie
 use Rattle.message.proofs.reporting.good_ending.Reads as reads
 use Rattle.message.proofs.reporting.good_ending.Lts as lts
 use Rattle.lists.proofs.both.Reads as both-reads
-use Rattle.message.proofs.placing.good.Reads as good-reads
-use Rattle.message.proofs.placing.is_empty.Reads as is-empty-reads
+use Rattle.message.proofs.locating.good.Reads as good-reads
+use Rattle.message.proofs.locating.is_empty.Reads as is-empty-reads
 use Rattle.message.proofs.reporting.good_intensity.Reads as good-intensity-reads
 use Rattle.motions.proofs.good_speed.Reads as good-speed-reads
 

@@ -6,7 +6,7 @@ use Rattle.message.proofs.reporting.is_empty.Reads as reads
 use Rattle.message.proofs.reporting.is_empty.Lts as lts
 use Rattle.levels.proofs.empty_level.Reads as empty-level-reads
 use Rattle.lists.proofs.both.Reads as both-reads
-use Rattle.message.proofs.placing.is_empty.Reads as is-empty-reads
+use Rattle.message.proofs.locating.is_empty.Reads as is-empty-reads
 use Rattle.message.proofs.reporting.empty_ending.Reads as empty-ending-reads
 use Rattle.message.proofs.reporting.empty_observation.Reads as empty-observation-reads
 use Rattle.message.proofs.reporting.empty_volcano.Reads as empty-volcano-reads

@@ -4,8 +4,8 @@ use Rattle.message.proofs.reporting.none.Tie as tie
 use Rattle.message.proofs.reporting.none.Reads as reads
 use Rattle.message.proofs.reporting.none.Lts as lts
 use Rattle.message.proofs.naming.none.Reads as naming-none-reads
-use Rattle.message.proofs.placing.no_point.Reads as no-point-reads
-use Rattle.message.proofs.placing.none.Reads as placing-none-reads
+use Rattle.message.proofs.locating.no_point.Reads as no-point-reads
+use Rattle.message.proofs.locating.none.Reads as locating-none-reads
 
 -- src/reporting.rt:27:9
 none-requires : tie.Need-none-requires

@@ -1,68 +1,68 @@
 use borrow.Author.Needs.{needs}
-use Rattle.message.specs.Places.{goodPlace}
-use Rattle.message.proofs.placing.good.Statement.{statement}
-use Rattle.message.proofs.placing.good.Tie as tie
-use Rattle.message.proofs.placing.good.Reads as reads
-use Rattle.message.proofs.placing.good.Lts as lts
+use Rattle.message.specs.Locations.{goodExtent}
+use Rattle.message.proofs.locating.good.Statement.{statement}
+use Rattle.message.proofs.locating.good.Tie as tie
+use Rattle.message.proofs.locating.good.Reads as reads
+use Rattle.message.proofs.locating.good.Lts as lts
 use Rattle.lists.proofs.both.Reads as both-reads
-use Rattle.message.proofs.placing.good_bound.Reads as good-bound-reads
-use Rattle.message.proofs.placing.good_outline.Reads as good-outline-reads
-use Rattle.message.proofs.placing.no_points.Reads as no-points-reads
+use Rattle.message.proofs.locating.good_bound.Reads as good-bound-reads
+use Rattle.message.proofs.locating.good_outline.Reads as good-outline-reads
+use Rattle.message.proofs.locating.no_points.Reads as no-points-reads
 
--- src/placing.rt:154:30
+-- src/locating.rt:154:30
 enum-told : tie.Need-enum-told
 enum-told c = search needs
 
--- src/placing.rt:155:27
+-- src/locating.rt:155:27
 enum-known-location : tie.Need-enum-known-location
 enum-known-location c = search needs
 
--- src/placing.rt:155:38
+-- src/locating.rt:155:38
 good-bound-requires : tie.Need-good-bound-requires
 good-bound-requires c κs = search needs
 
--- src/placing.rt:155:53
+-- src/locating.rt:155:53
 no-points-requires : tie.Need-no-points-requires
 no-points-requires c κs = search needs
 
--- src/placing.rt:155:33
+-- src/locating.rt:155:33
 both-requires : tie.Need-both-requires
 both-requires c κs = search needs
 
--- src/placing.rt:156:27
+-- src/locating.rt:156:27
 enum-known-location-2 : tie.Need-enum-known-location-2
 enum-known-location-2 c = search needs
 
--- src/placing.rt:156:33
+-- src/locating.rt:156:33
 good-outline-requires : tie.Need-good-outline-requires
 good-outline-requires c κs = search needs
 
--- src/placing.rt:157:29
+-- src/locating.rt:157:29
 enum-told-2 : tie.Need-enum-told-2
 enum-told-2 c = search needs
 
--- src/placing.rt:157:29
+-- src/locating.rt:157:29
 no-points-requires-2 : tie.Need-no-points-requires-2
 no-points-requires-2 c κs = search needs
 
--- src/placing.rt:148:1
+-- src/locating.rt:148:1
 returns : tie.Need-returns
-unfolding goodPlace
+unfolding goodExtent
 returns c = rw (c .enum-told .given .1)
 
--- src/placing.rt:148:1
+-- src/locating.rt:148:1
 returns-2 : tie.Need-returns-2
-unfolding goodPlace
+unfolding goodExtent
 returns-2 c = rw (c .before .before .before .before .location .given .1, c .both .ensures, c .before .no-points .ensures, c .before .before .good-bound .ensures)
 
--- src/placing.rt:148:1
+-- src/locating.rt:148:1
 returns-3 : tie.Need-returns-3
-unfolding goodPlace
+unfolding goodExtent
 returns-3 c = rw (c .before .before .location2 .given .1, c .good-outline .ensures)
 
--- src/placing.rt:148:1
+-- src/locating.rt:148:1
 returns-4 : tie.Need-returns-4
-unfolding goodPlace
+unfolding goodExtent
 returns-4 c = rw (c .before .enum-told2 .given .1, c .no-points2 .ensures)
 
 pub good-spec : {M : Type 1} → statement M

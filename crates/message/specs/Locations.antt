@@ -12,12 +12,12 @@ use Rattle.words.specs.Bytes.{between}
 use Rattle.coordinates.specs.Coordinates.{Axis, northSouth, eastWest, goodCoordinate, emptyCoordinate, noCoordinate, spellCoordinate}
 use Rattle.coordinates.specs.Points.{goodPoint, emptyPoint, samePoint, noPoint, pointWords}
 use Rattle.coordinates.specs.declared.Point.{Point}
-use Rattle.message.specs.Limits.{leastPoints, mostPoints}
+use Rattle.message.specs.Limits.{leastPoints, mostPoints, cta}
 use Rattle.message.specs.declared.Side.{Side}
 use Rattle.message.specs.declared.Bound.{Bound}
 use Rattle.message.specs.declared.Location.{Location}
 use Rattle.message.specs.declared.Location.the-variants.{Nowhere, Bounded, Outline, Entire}
-use Rattle.message.specs.declared.Place.{Place}
+use Rattle.message.specs.declared.Extent.{Extent}
 
 -- "`N OF` or `S OF` a latitude; `E OF` or `W OF` a longitude": a side on an axis
 unfoldable pub goodSide : Axis → Side → Bool
@@ -57,8 +57,8 @@ locatedBy (Bounded b) ps = both (goodBound b) (noPoints ps)
 locatedBy (Outline n) ps = goodOutline n ps
 locatedBy Entire ps = noPoints ps
 
-unfoldable pub goodPlace : Place → Bool
-goodPlace p = locatedBy (p .location) (p .points)
+unfoldable pub goodExtent : Extent → Bool
+goodExtent p = locatedBy (p .location) (p .points)
 
 abbrev pub isNowhere : Location → Bool
 isNowhere Nowhere = true
@@ -66,11 +66,11 @@ isNowhere (Bounded b) = false
 isNowhere (Outline n) = false
 isNowhere Entire = false
 
-unfoldable pub emptyPlace : Place → Bool
-emptyPlace p = both (isNowhere (p .location)) (noPoints (p .points))
+unfoldable pub emptyExtent : Extent → Bool
+emptyExtent p = both (isNowhere (p .location)) (noPoints (p .points))
 
-abbrev pub noPlace : Place
-noPlace = record { location = Nowhere; points = replicate mostPoints noPoint }
+abbrev pub noExtent : Extent
+noExtent = record { location = Nowhere; points = replicate mostPoints noPoint }
 
 -- `N`, `OF`, the coordinate
 abbrev pub sideWords : Axis → Side → List (List ℕ)
@@ -90,9 +90,9 @@ unfoldable pub joined : List Point → List (List ℕ)
 joined [] = []
 joined (p ∷ ps) = pointWords p ++ dashed ps
 
--- "`ENTIRE FIR`, or `ENTIRE CTA` exactly when the area is a CTA": the closing word of a CTA is number 3
+-- "`ENTIRE FIR`, or `ENTIRE CTA` exactly when the area is a CTA"
 abbrev pub entireWords : ℕ → List (List ℕ)
-entireWords closing = bytes "ENTIRE" ∷ pick (eqb closing 3) (bytes "CTA") (bytes "FIR") ∷ []
+entireWords closing = bytes "ENTIRE" ∷ pick (eqb closing cta) (bytes "CTA") (bytes "FIR") ∷ []
 
 -- the words of a location, in an area with that closing word
 abbrev pub locationWords : ℕ → Location → List Point → List (List ℕ)
@@ -101,5 +101,5 @@ locationWords closing (Bounded b) ps = boundWords b
 locationWords closing (Outline n) ps = bytes "WI" ∷ joined (take n ps)
 locationWords closing Entire ps = entireWords closing
 
-unfoldable pub placeWords : ℕ → Place → List (List ℕ)
-placeWords closing p = locationWords closing (p .location) (p .points)
+unfoldable pub extentWords : ℕ → Extent → List (List ℕ)
+extentWords closing p = locationWords closing (p .location) (p .points)

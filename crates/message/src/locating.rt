@@ -5,10 +5,10 @@ ghost use lib.ListN.{take, drop};
 ghost use Rattle.lists.specs.Lists.{allOf};
 ghost use Rattle.coordinates.specs.Coordinates.{northSouth, eastWest};
 ghost use Rattle.coordinates.specs.Points.{goodPoint, emptyPoint, noPoint};
-ghost use Rattle.message.specs.Places.{goodSide, emptySide, goodBound, noPoints, closingPoint, goodOutline, goodPlace, emptyPlace, noPlace};
+ghost use Rattle.message.specs.Locations.{goodSide, emptySide, goodBound, noPoints, closingPoint, goodOutline, goodExtent, emptyExtent, noExtent};
 use crate::Bound;
+use crate::Extent;
 use crate::Location;
-use crate::Place;
 use crate::Side;
 use coordinates::Coordinate;
 use coordinates::Point;
@@ -36,11 +36,11 @@ pub(crate) fn no_point() -> Point
     }
 }
 
-pub(crate) fn none() -> Place
-    ensures { λ r. ⌜ r ≡ noPlace ⌝ }
+pub(crate) fn none() -> Extent
+    ensures { λ r. ⌜ r ≡ noExtent ⌝ }
 {
     let p = no_point();
-    Place {
+    Extent {
         location: Location::Nowhere,
         points: [p; 7],
     }
@@ -144,8 +144,8 @@ fn good_outline(n: u8, points: [Point; 7]) -> bool
     both(written, both(closed, empty_from(points, count)))
 }
 
-pub(crate) fn good(p: Place) -> bool
-    ensures { λ r. ⌜ r ≡ goodPlace p ⌝ }
+pub(crate) fn good(p: Extent) -> bool
+    ensures { λ r. ⌜ r ≡ goodExtent p ⌝ }
 {
     let location = p.location;
     let points = p.points;
@@ -157,8 +157,8 @@ pub(crate) fn good(p: Place) -> bool
     }
 }
 
-pub(crate) fn is_empty(p: Place) -> bool
-    ensures { λ r. ⌜ r ≡ emptyPlace p ⌝ }
+pub(crate) fn is_empty(p: Extent) -> bool
+    ensures { λ r. ⌜ r ≡ emptyExtent p ⌝ }
 {
     let location = p.location;
     let points = p.points;
