@@ -5,3 +5,4 @@ pub mod Keywords
 pub mod Determined
 pub mod TableLaws
 pub mod PlainLaws
+pub mod Kept

@@ -24,7 +24,7 @@ use Rattle.groups.specs.declared.Group.{Group}
 use Rattle.groups.specs.declared.Period.{Period}
 use Rattle.groups.specs.declared.Time.{Time}
 use Rattle.groups.proofs.Parts.{part-whole, part-here, part-past, at-past, part-join, part-cons, marked, marked-true, marked-long, marked-at}
-use Rattle.groups.proofs.Kept.{kept-reads, reads-spelled}
+use Rattle.figures.proofs.Kept.{kept-reads, reads-spelled}
 
 -- Values made of equal parts.
 

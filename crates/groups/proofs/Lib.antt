@@ -1,4 +1,3 @@
 pub mod Parts
-pub mod Kept
 pub mod GroupLaws
 pub mod Determined

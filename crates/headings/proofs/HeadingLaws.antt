@@ -29,7 +29,7 @@ use Rattle.figures.proofs.PlainLaws.{letter-plain, inFigures-plain, inLetters-p
 use Rattle.figures.proofs.TableLaws.{number-at, number-none, numbers-reads}
 use Rattle.headings.specs.Headings.{typeWords, typeOf, goodType, goodDesignator, noDesignator, designatorOf, spellDesignator, goodCorrection, correctionOf, spellCorrection, officeOf, spellOffice}
 use Rattle.headings.specs.declared.Designator.{Designator}
-use Rattle.headings.proofs.Kept.{kept-reads, reads-spelled}
+use Rattle.figures.proofs.Kept.{kept-reads, reads-spelled}
 use Rattle.headings.proofs.Parts.{part-whole, part-here, part-past, at-past, part-join, part-cons}
 
 -- The tests of letters, place by place.

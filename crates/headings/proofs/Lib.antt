@@ -1,5 +1,4 @@
 pub mod Parts
-pub mod Kept
 pub mod HeadingLaws
 pub mod SequenceLaws
 pub mod Determined

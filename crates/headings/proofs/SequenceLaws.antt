@@ -23,7 +23,7 @@ use Rattle.figures.proofs.PlainLaws.{letter-plain, inFigures-plain}
 use Rattle.headings.specs.Sequences.{characters, goodSequence, noSequence, lettered, unlettered, sequenceOf, spellSequence}
 use Rattle.headings.specs.declared.Sequence.{Sequence}
 use Rattle.headings.proofs.HeadingLaws.{run-plain}
-use Rattle.headings.proofs.Kept.{kept-reads}
+use Rattle.figures.proofs.Kept.{kept-reads}
 use Rattle.headings.proofs.Parts.{part-rest}
 
 pub ten-none : (d : ℕ) → (d ≡ 1 → ⊥) → (d ≡ 2 → ⊥) → (d ≡ 3 → ⊥) → 1 ≡ pick (between 1 3 d) (10 ^ d) 1
