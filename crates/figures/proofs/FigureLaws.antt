@@ -10,10 +10,10 @@ use lib.Dec.{leb, ltb, lit<}
 use lib.ListN.{length, length-map}
 use borrow.Author.Tests.{leb-true, le-leb, lt-ltb, le-ltb, ltb-true}
 use Rattle.lists.specs.Choice.{pick, both}
-use Rattle.lists.specs.Lists.{allOf}
+use Rattle.lists.specs.Lists.{allOf, part}
 use Rattle.lists.specs.Base.{worth, places}
 use Rattle.lists.proofs.Choice.{both-left, both-right, both-true, pick-true}
-use Rattle.lists.proofs.Lists.{all-map, all-weaken}
+use Rattle.lists.proofs.Lists.{all-map, all-weaken, length-part}
 use Rattle.lists.proofs.Base.{worth-places, places-worth, worth-lt, length-places, places-small}
 use Rattle.words.specs.Bytes.{digit}
 use Rattle.figures.specs.Figures.{figure, asFigure, figuresOf, inFigures, capped, twoOf, threeOf}
@@ -85,6 +85,10 @@ pub figures-back : (w : List ℕ) → figuresOf w < 100000 → inFigures (length
 figures-back w h =
     let small : allOf (λ (d : ℕ). ltb d 10) (map figure w) ≡ true = digits-small w (figures-digits w h) in
     rw (figures-worth w h, ← length-map w figure, places-worth 10 (map figure w) small) (map-back w (figures-digits w h))
+
+-- a part that counts as figures is those figures
+pub figures-part : (w : List ℕ) (a e : ℕ) → a ≤ e → e ≤ length w → figuresOf (part a e w) < 100000 → part a e w ≡ inFigures (e - a) (figuresOf (part a e w))
+figures-part w a e h k l = sym (rw (length-part a e w h k) at (figures-back (part a e w) l))
 
 pub figures-lt : (w : List ℕ) → figuresOf w < 100000 → figuresOf w < 10 ^ length w
 figures-lt w h = rw (figures-worth w h, ← length-map w figure) (worth-lt 10 (map figure w) (digits-small w (figures-digits w h)))

@@ -14,17 +14,17 @@ use Rattle.lists.specs.Lists.{allOf, part}
 use Rattle.lists.specs.Text.{bytes}
 use Rattle.lists.proofs.Choice.{both-left, both-right, both-true}
 use Rattle.lists.proofs.Lists.{all-append, all-weaken, length-part}
+use Rattle.lists.proofs.Parts.{part-whole, part-here, part-past, at-past, part-join, part-cons, marked, marked-true, marked-long, marked-at}
 use Rattle.words.specs.Bytes.{between, digit, solid, equals, allowed}
 use Rattle.words.specs.Words.{runOf, solidWord}
 use Rattle.figures.specs.Figures.{inFigures, twoOf}
 use Rattle.figures.specs.Reads.{Reads}
 use Rattle.figures.proofs.FigureLaws.{digit-low, length-inFigures, inFigures-digits, two-forth, two-back}
+use Rattle.figures.proofs.Kept.{kept-reads, reads-spelled}
 use Rattle.groups.specs.Groups.{onClock, goodGroup, noGroup, groupOf, spellGroup, goodPeriod, noPeriod, periodOf, spellPeriod, goodTime, noTime, timeOf, spellTime}
 use Rattle.groups.specs.declared.Group.{Group}
 use Rattle.groups.specs.declared.Period.{Period}
 use Rattle.groups.specs.declared.Time.{Time}
-use Rattle.groups.proofs.Parts.{part-whole, part-here, part-past, at-past, part-join, part-cons, marked, marked-true, marked-long, marked-at}
-use Rattle.figures.proofs.Kept.{kept-reads, reads-spelled}
 
 -- Values made of equal parts.
 

@@ -16,6 +16,7 @@ use Rattle.lists.specs.Base.{places}
 use Rattle.lists.specs.Text.{bytes}
 use Rattle.lists.proofs.Choice.{by, both-left, both-right, both-true}
 use Rattle.lists.proofs.Lists.{all-at, all-append, length-part}
+use Rattle.lists.proofs.Parts.{part-whole, part-here, part-past, at-past, part-join, part-cons, marked, marked-long, marked-at}
 use Rattle.words.specs.Bytes.{letter, allowed, plain}
 use Rattle.words.specs.Words.{runOf}
 use Rattle.figures.specs.Figures.{twoOf, inFigures}
@@ -24,13 +25,12 @@ use Rattle.figures.specs.Keywords.{short, codeOf, distinct, wordOf}
 use Rattle.figures.specs.Reads.{Reads}
 use Rattle.figures.specs.Tables.{numbered, inNumbers}
 use Rattle.figures.proofs.FigureLaws.{length-inFigures, two-forth, two-back}
+use Rattle.figures.proofs.Kept.{kept-reads, reads-spelled}
 use Rattle.figures.proofs.LetterLaws.{length-inLetters, letters-reads}
 use Rattle.figures.proofs.PlainLaws.{letter-plain, inFigures-plain, inLetters-plain}
 use Rattle.figures.proofs.TableLaws.{number-at, number-none, numbers-reads}
 use Rattle.headings.specs.Headings.{typeWords, typeOf, goodType, goodDesignator, noDesignator, designatorOf, spellDesignator, goodCorrection, correctionOf, spellCorrection, officeOf, spellOffice}
 use Rattle.headings.specs.declared.Designator.{Designator}
-use Rattle.figures.proofs.Kept.{kept-reads, reads-spelled}
-use Rattle.headings.proofs.Parts.{part-whole, part-here, part-past, at-past, part-join, part-cons}
 
 -- The tests of letters, place by place.
 
@@ -206,7 +206,7 @@ correction-plain c g = rw (letter-plain c (correction-letter c g))
 -- The office.
 
 abbrev officeTest : List ℕ → Bool
-officeTest w = both (eqb (length w) 5) (eqb (getD w 4 0) (code "-"))
+officeTest w = marked 5 4 (code "-") w
 
 four-letters-reads : Reads (lettersOf 4) (inLetters 4) (goodLetters 4) 0
 four-letters-reads = letters-reads 4 (lit< tt) (lit< tt)
@@ -226,9 +226,9 @@ office-forth o g =
 
 office-joined : (w : List ℕ) → officeTest w ≡ true → part 0 4 w ++ bytes "-" ≡ w
 office-joined w t =
-    let l : length w ≡ 5 = eqb-true (length w) 5 (both-left (eqb (length w) 5) (eqb (getD w 4 0) 45) t) in
+    let l : length w ≡ 5 = marked-long 5 4 (code "-") w t in
     rw (
-      part-cons w 4 5 0 45 (omega arith) (omega arith) (eqb-true (getD w 4 0) 45 (both-right (eqb (length w) 5) (eqb (getD w 4 0) 45) t)),
+      part-cons w 4 5 0 (code "-") (omega arith) (omega arith) (marked-at 5 4 (code "-") w t),
       part-join w 0 4 5 (omega arith) (omega arith),
     )
     (part-whole w 5 l)

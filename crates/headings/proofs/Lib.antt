@@ -1,4 +1,3 @@
-pub mod Parts
 pub mod HeadingLaws
 pub mod SequenceLaws
 pub mod Determined

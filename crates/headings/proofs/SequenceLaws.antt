@@ -14,17 +14,17 @@ use Rattle.lists.specs.Choice.{pick, both}
 use Rattle.lists.specs.Lists.{allOf, part}
 use Rattle.lists.proofs.Choice.{by, both-left, both-right, both-true, both-false-left, either-cases, pick-false}
 use Rattle.lists.proofs.Lists.{all-at}
+use Rattle.lists.proofs.Parts.{part-rest}
 use Rattle.words.specs.Bytes.{between, letter, digit, plain}
 use Rattle.words.specs.Words.{runOf}
 use Rattle.figures.specs.Figures.{threeOf, inFigures}
 use Rattle.figures.specs.Reads.{Reads}
 use Rattle.figures.proofs.FigureLaws.{length-inFigures, inFigures-digits, three-forth, three-back}
+use Rattle.figures.proofs.Kept.{kept-reads}
 use Rattle.figures.proofs.PlainLaws.{letter-plain, inFigures-plain}
 use Rattle.headings.specs.Sequences.{characters, goodSequence, noSequence, lettered, unlettered, sequenceOf, spellSequence}
 use Rattle.headings.specs.declared.Sequence.{Sequence}
 use Rattle.headings.proofs.HeadingLaws.{run-plain}
-use Rattle.figures.proofs.Kept.{kept-reads}
-use Rattle.headings.proofs.Parts.{part-rest}
 
 pub ten-none : (d : ℕ) → (d ≡ 1 → ⊥) → (d ≡ 2 → ⊥) → (d ≡ 3 → ⊥) → 1 ≡ pick (between 1 3 d) (10 ^ d) 1
 ten-none d p q r =

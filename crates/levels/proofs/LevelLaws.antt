@@ -17,14 +17,14 @@ use Rattle.lists.specs.Base.{places}
 use Rattle.lists.specs.Text.{bytes}
 use Rattle.lists.proofs.Choice.{by, clash, both-left, both-right, both-true, either-left, either-right}
 use Rattle.lists.proofs.Lists.{same-is, all-weaken, all-append}
+use Rattle.lists.proofs.Parts.{joined, joined-one, last}
 use Rattle.words.specs.Bytes.{between, letter, digit, allowed, solid, equals}
 use Rattle.figures.specs.Figures.{figuresOf, inFigures}
 use Rattle.figures.specs.Reads.{Reads, kept}
-use Rattle.figures.proofs.FigureLaws.{digit-low, figures-forth, inFigures-digits}
+use Rattle.figures.proofs.FigureLaws.{digit-low, figures-forth, figures-part, inFigures-digits}
 use Rattle.levels.specs.declared.Level.{Level}
 use Rattle.levels.specs.declared.Level.the-variants.{NoLevel, Flight, SurfaceFlight, SurfaceMetres, SurfaceFeet, Band, TopFlight, AboveFlight, TopAboveFlight}
 use Rattle.levels.specs.Levels.{flight, goodBand, goodLevelWord, feetFigures, spellLevelWord, five, surfaceNine, bandNine, nine, tenEleven, levelOf, goodLevel, emptyLevel}
-use Rattle.levels.proofs.Parts.{joined, joined-one, last, figures-part}
 
 upto : (a b n : ℕ) → between a b n ≡ true → n ≤ b
 upto a b n t = leb-true n b (both-right (leb a n) (leb n b) t)
@@ -100,7 +100,7 @@ module _ (w : List ℕ) (n : length w ≡ 9) where
       picked w (same (part 4 6 w) (bytes "FL"))
       (λ fl. kept-back w (SurfaceFlight (figuresOf (part 6 9 w))) (λ g. joined w 0 4 (omega arith) sfc (joined w 4 6 (omega arith) (same-is _ _ fl) (last w 6 9 n (in-range w 6 9 999 (omega arith) (omega arith) (omega arith) g)))))
       (λ f. picked w (eqb (getD w 8 0) (code "M"))
-      (λ m. kept-back w (SurfaceMetres (figuresOf (part 4 8 w))) (λ g. joined w 0 4 (omega arith) sfc (joined w 4 8 (omega arith) (in-range w 4 8 9999 (omega arith) (omega arith) (omega arith) g) (joined-one w 8 (omega arith) (eqb-true _ _ m) (last w 9 9 n refl)))))
+      (λ m. kept-back w (SurfaceMetres (figuresOf (part 4 8 w))) (λ g. joined w 0 4 (omega arith) sfc (joined w 4 8 (omega arith) (in-range w 4 8 9999 (omega arith) (omega arith) (omega arith) g) (joined-one w 8 0 (omega arith) (eqb-true _ _ m) (last w 9 9 n refl)))))
       (λ f. none w))
 
   band-back : Back w (bandNine w)
@@ -109,7 +109,7 @@ module _ (w : List ℕ) (n : length w ≡ 9) where
       chosen w (same (part 0 2 w) (bytes "FL")) (eqb (getD w 5 0) (code "/"))
       (λ fl s. kept-back w (Band (figuresOf (part 2 5 w)) (figuresOf (part 6 9 w))) (λ g. joined w 0 2 (omega arith) (same-is _ _ fl)
       (joined w 2 5 (omega arith) (in-range w 2 5 999 (omega arith) (omega arith) (omega arith) (band-low (figuresOf (part 2 5 w)) (figuresOf (part 6 9 w)) g))
-      (joined-one w 5 (omega arith) (eqb-true _ _ s) (last w 6 9 n (in-range w 6 9 999 (omega arith) (omega arith) (omega arith) (band-high (figuresOf (part 2 5 w)) (figuresOf (part 6 9 w)) g)))))))
+      (joined-one w 5 0 (omega arith) (eqb-true _ _ s) (last w 6 9 n (in-range w 6 9 999 (omega arith) (omega arith) (omega arith) (band-high (figuresOf (part 2 5 w)) (figuresOf (part 6 9 w)) g)))))))
 
   nine-back : Back w (nine w)
   nine-back = picked w (same (part 0 4 w) (bytes "SFC/")) (λ sfc. surface-back (same-is _ _ sfc)) (λ f. band-back)

@@ -9,7 +9,7 @@ use native.Mathlib.Nat.{not-suc-le-zero}
 use native.Mathlib.Omega.{arith}
 use lib.Dec.{leb, ltb, eqb, lit<}
 use lib.ListN.{length, take, drop, getD, length-drop}
-use lib.Seq.{split-at, drop-drop, take-all}
+use lib.Seq.{split-at, drop-drop}
 use borrow.Author.Tests.{leb-true, le-ltb, lt-ltb, eqb-true, eqb-false, eq-eqb, ne-eqb, not-true}
 use Rattle.lists.specs.Base.{worthAfter}
 use Rattle.lists.specs.Choice.{both}
@@ -17,6 +17,7 @@ use Rattle.lists.specs.Lists.{indexOf, indexFrom, allOf, part, same}
 use Rattle.lists.specs.Text.{bytes}
 use Rattle.lists.proofs.Choice.{by, clash, both-left, both-right, both-true, pick-false, either-cases}
 use Rattle.lists.proofs.Lists.{index-found, index-clear, index-all, all-append, all-weaken, all-at}
+use Rattle.lists.proofs.Parts.{part-rest}
 use Rattle.words.specs.Bytes.{letter, solid, equals, allowed, plain}
 use Rattle.words.specs.Words.{wordsIn, runOf, solidWord, line}
 use Rattle.words.proofs.Words.{run-of, run-some, run-all, words-line-end}
@@ -168,7 +169,7 @@ module _ (m : Bool) (t : List ℕ) {at stop : ℕ} (c : Cut m t at stop) where
   cut-ends h =
       let left : length (drop at t) ≡ length t - at = length-drop at t in
       let last : pieces (drop at t) ≡ drop at t ∷ [] = pieces-last (drop at t) (omega arith) in
-      c .rest ∙ rw (last, take-all (length t - at) (drop at t) (omega arith)) (all-one (inName m) (drop at t))
+      c .rest ∙ rw (last, part-rest t at) (all-one (inName m) (drop at t))
 
 -- The words of a name, and a name grown by a word.
 

@@ -13,7 +13,7 @@ use Rattle.words.specs.Bytes.{between}
 use Rattle.figures.specs.Keywords.{codeOf}
 use Rattle.levels.specs.Levels.{feetFigures}
 use Rattle.levels.proofs.Codes.{same-yes, same-no, coded-ft, coded-sfc}
-use Rattle.levels.proofs.Parts.{part-rest}
+use Rattle.lists.proofs.Parts.{part-rest}
 use Rattle.levels.proofs.ten_or_eleven.Statement.{statement}
 use Rattle.levels.proofs.ten_or_eleven.Tie as tie
 
