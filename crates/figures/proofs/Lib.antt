@@ -3,6 +3,7 @@ pub mod FigureLaws
 pub mod LetterLaws
 pub mod Keywords
 pub mod Determined
+pub mod Codes
 pub mod TableLaws
 pub mod PlainLaws
 pub mod Kept
