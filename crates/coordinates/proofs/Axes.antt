@@ -13,13 +13,14 @@ use lib.ListN.{length, take, drop, take-append-drop, length-append, length-drop}
 use lib.Seq.{take-all, take-at, drop-at, length-take-le}
 use borrow.Author.Tests.{eq-eqb, ne-eqb, eqb-true, eqb-false}
 use Rattle.lists.specs.Lists.{part, allOf}
-use Rattle.lists.proofs.Choice.{by, both-true, pick-true, pick-false}
+use Rattle.lists.proofs.Choice.{by, pick-true, pick-false}
 use Rattle.lists.proofs.Lists.{all-append}
 use Rattle.words.specs.Bytes.{letter, plain}
+use Rattle.words.specs.Words.{plainWord}
 use Rattle.figures.specs.Figures.{twoOf, threeOf, inFigures}
 use Rattle.figures.specs.Reads.{Reads, kept}
 use Rattle.figures.proofs.FigureLaws.{two-forth, two-back, three-forth, three-back, length-inFigures}
-use Rattle.figures.proofs.PlainLaws.{letter-plain, inFigures-plain}
+use Rattle.figures.proofs.PlainLaws.{letter-plain, inFigures-plain, plain-cons}
 use Rattle.coordinates.specs.Coordinates.{Axis, northSouth, eastWest, coordinateOf, spellCoordinate, goodCoordinate, noCoordinate}
 use Rattle.coordinates.specs.declared.Coordinate.{Coordinate}
 use Rattle.coordinates.proofs.Goodness.{good-told, none-bad}
@@ -64,15 +65,16 @@ module _ (a : Axis) where
         sides (inl e) = rw e p
         sides (inr e) = rw e m
 
-    pub spell-plain : allOf plain (spellCoordinate a c) ≡ true
-    unfolding allOf
+    pub spell-plain : plainWord (spellCoordinate a c) ≡ true
     spell-plain = by-form (good-told a c g .form)
       where
-        by-form : ((c .digits ≡ a .width) × (c .minutes ≡ 0)) ⊎ (c .digits ≡ a .width + 2) → allOf plain (spellCoordinate a c) ≡ true
-        by-form (inl (e, z)) = rw (spell-degrees c e) (both-true (letter-plain (c .letter) letter-good) (inFigures-plain (a .width) (c .degrees)))
+        by-form : ((c .digits ≡ a .width) × (c .minutes ≡ 0)) ⊎ (c .digits ≡ a .width + 2) → plainWord (spellCoordinate a c) ≡ true
+        by-form (inl (e, z)) = rw (spell-degrees c e) (plain-cons (c .letter) (inFigures (a .width) (c .degrees)) (letter-plain (c .letter) letter-good) (inFigures-plain (a .width) (c .degrees)))
         by-form (inr e) =
-            rw (spell-minutes c e, all-append plain (inFigures (a .width) (c .degrees)) (inFigures 2 (c .minutes)))
-            (both-true (letter-plain (c .letter) letter-good) (both-true (inFigures-plain (a .width) (c .degrees)) (inFigures-plain 2 (c .minutes))))
+            let d : List ℕ = inFigures (a .width) (c .degrees) in
+            let m : List ℕ = inFigures 2 (c .minutes) in
+            let all : allOf plain (d ++ m) ≡ true = rw (all-append plain d m, inFigures-plain (a .width) (c .degrees), inFigures-plain 2 (c .minutes)) in
+            rw (spell-minutes c e) (plain-cons (c .letter) (d ++ m) (letter-plain (c .letter) letter-good) all)
 
   pub spell-length : (c : Coordinate) → goodCoordinate a c ≡ true → length (spellCoordinate a c) ≡ c .digits + 1
   spell-length c g = by-form (good-told a c g .form)
@@ -150,8 +152,8 @@ pub longitude-reads : Reads (coordinateOf eastWest) (spellCoordinate eastWest) (
 longitude-reads = coordinate-reads eastWest (lit≤ tt) (lit< tt) (lit< tt) (lit< tt)
 
 -- the words of good latitudes and longitudes
-pub latitude-plain : (c : Coordinate) → goodCoordinate northSouth c ≡ true → allOf plain (spellCoordinate northSouth c) ≡ true
+pub latitude-plain : (c : Coordinate) → goodCoordinate northSouth c ≡ true → plainWord (spellCoordinate northSouth c) ≡ true
 latitude-plain = spell-plain northSouth refl refl
 
-pub longitude-plain : (c : Coordinate) → goodCoordinate eastWest c ≡ true → allOf plain (spellCoordinate eastWest c) ≡ true
+pub longitude-plain : (c : Coordinate) → goodCoordinate eastWest c ≡ true → plainWord (spellCoordinate eastWest c) ≡ true
 longitude-plain = spell-plain eastWest refl refl

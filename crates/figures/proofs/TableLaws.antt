@@ -1,17 +1,16 @@
 -- Tables of fixed words that a record keeps as a number: a code tells the number, and number and word undo one another.
 -- Assumes nothing.
-use mathlib.Core.Bool.{true, false, not}
-use mathlib.Core.List.{List, [], _∷_, map}
-use mathlib.Core.Logic.{_⊎_, inl, inr, ⊎-elim}
+use mathlib.Core.Bool.{Bool, true, false, not}
+use mathlib.Core.List.{List, [], _∷_}
+use mathlib.Core.Logic.{_⊎_, inl, inr}
 use mathlib.Core.Path.{_≡_, refl, ap, sym, _∙_}
-use Prim.Native.Nat.{ℕ, zero, suc, _+_, _-_, _≤_, _<_}
-use native.Mathlib.Nat.{not-suc-le-zero, le-of-suc-le-suc, add-sub-cancel-left}
+use Prim.Native.Nat.{ℕ, _+_, _-_, _≤_, _<_}
+use native.Mathlib.Nat.{add-sub-cancel-left}
 use native.Mathlib.Omega.{arith}
 use lib.Dec.{leb, ltb, eqb}
-use lib.ListN.{length, getD}
-use borrow.Author.Tests.{leb-true, ltb-true, ltb-false, lt-ltb, le-ltb, le-leb, lt-leb}
-use Rattle.lists.specs.Choice.{pick, both}
-use Rattle.lists.specs.Lists.{allOf, indexOf, same}
+use lib.ListN.{length}
+use borrow.Author.Tests.{leb-true, ltb-true, lt-ltb, le-ltb, le-leb, lt-leb}
+use Rattle.lists.specs.Lists.{allOf, same}
 use Rattle.lists.proofs.Choice.{by, both-left, both-right, both-true, both-false-left, pick-true, pick-false}
 use Rattle.lists.proofs.Lists.{all-at, index-none, index-found, same-is}
 use Rattle.figures.specs.Reads.{Reads}
@@ -41,6 +40,13 @@ pub number-none : (first : ℕ) (table : List (List ℕ)) (w : List ℕ) → all
 number-none first table w s t =
     let past : wordIn table w ≡ length table = index-none (same w) table (same-none table w s t) in
     sym (pick-false (first + wordIn table w) 0 (le-ltb (wordIn table w) (length table) (omega arith)))
+
+-- what holds of every word of a table holds of the word of a number
+pub numbered-all : (f : List ℕ → Bool) (first : ℕ) (table : List (List ℕ)) → 0 < length table → allOf f table ≡ true → (n : ℕ) → inNumbers first table n ≡ true → f (numbered first table n) ≡ true
+numbered-all f first table some t n g =
+    let low : first ≤ n = leb-true first n (both-left (leb first n) (leb n (first + length table - 1)) g) in
+    let high : n ≤ first + length table - 1 = leb-true n (first + length table - 1) (both-right (leb first n) (leb n (first + length table - 1)) g) in
+    rw (le-ltb n first low) (all-at f table [] t (n - first) (omega arith))
 
 module _ (first : ℕ) (table : List (List ℕ)) (pos : 0 < first) (some : 0 < length table) (d : distinct table ≡ true) where
   number-forth : (n : ℕ) → inNumbers first table n ≡ true → numberIn first table (numbered first table n) ≡ n

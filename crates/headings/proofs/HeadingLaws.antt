@@ -1,7 +1,7 @@
 -- The words of the heading and the office: each reader and its spelling undo one another, and each spelling is a word.
 -- Assumes nothing.
 use mathlib.Core.Bool.{Bool, true, false}
-use mathlib.Core.List.{List, [], _++_}
+use mathlib.Core.List.{List, _++_}
 use mathlib.Core.Logic.{_⊎_, inl, inr}
 use mathlib.Core.Path.{_≡_, refl}
 use Prim.Native.Char.{code}
@@ -9,26 +9,26 @@ use Prim.Native.Nat.{ℕ, _+_, _-_, _/_, _%_, _^_, _≤_, _<_}
 use native.Mathlib.Omega.{arith}
 use lib.Dec.{leb, ltb, eqb, lit<}
 use lib.ListN.{length, getD, length-append}
-use borrow.Author.Tests.{leb-true, le-leb, eqb-true, eq-eqb, ne-eqb, lt-ltb, le-ltb}
+use borrow.Author.Tests.{leb-true, le-leb, eqb-true, eq-eqb, ne-eqb, lt-ltb}
 use Rattle.lists.specs.Choice.{both}
 use Rattle.lists.specs.Lists.{allOf, same, part}
 use Rattle.lists.specs.Base.{places}
 use Rattle.lists.specs.Text.{bytes}
 use Rattle.lists.proofs.Choice.{by, both-left, both-right, both-true}
-use Rattle.lists.proofs.Lists.{all-at, all-append, length-part}
+use Rattle.lists.proofs.Lists.{all-append, length-part}
 use Rattle.lists.proofs.Parts.{part-whole, part-here, part-past, at-past, part-join, part-cons, marked, marked-long, marked-at}
 use Rattle.words.specs.Bytes.{letter, allowed, plain}
-use Rattle.words.specs.Words.{runOf}
+use Rattle.words.specs.Words.{plainWord}
 use Rattle.figures.specs.Figures.{twoOf, inFigures}
 use Rattle.figures.specs.Letters.{lettersOf, inLetters, goodLetters}
 use Rattle.figures.specs.Keywords.{short, codeOf, distinct, wordOf}
 use Rattle.figures.specs.Reads.{Reads}
-use Rattle.figures.specs.Tables.{numbered, inNumbers}
+use Rattle.figures.specs.Tables.{numbered}
 use Rattle.figures.proofs.FigureLaws.{length-inFigures, two-forth, two-back}
 use Rattle.figures.proofs.Kept.{kept-reads, reads-spelled}
 use Rattle.figures.proofs.LetterLaws.{length-inLetters, letters-reads}
-use Rattle.figures.proofs.PlainLaws.{letter-plain, inFigures-plain, inLetters-plain}
-use Rattle.figures.proofs.TableLaws.{number-at, number-none, numbers-reads}
+use Rattle.figures.proofs.PlainLaws.{letter-plain, inFigures-plain, inLetters-plain, run-plain}
+use Rattle.figures.proofs.TableLaws.{number-at, number-none, numbered-all, numbers-reads}
 use Rattle.headings.specs.Headings.{typeWords, typeOf, goodType, goodDesignator, noDesignator, designatorOf, spellDesignator, goodCorrection, correctionOf, spellCorrection, officeOf, spellOffice}
 use Rattle.headings.specs.declared.Designator.{Designator}
 
@@ -45,10 +45,6 @@ two-good n = rw (both-unit (letter (n % 256)))
 pub four-good : (n : ℕ) → n < 256 ^ 4 → both (letter (n / 256 / 256 / 256 % 256)) (both (letter (n / 256 / 256 % 256)) (both (letter (n / 256 % 256)) (letter (n % 256)))) ≡ goodLetters 4 n
 unfolding goodLetters places allOf
 four-good n h = rw (both-unit (letter (n % 256)), lt-ltb n (256 ^ 4) h)
-
--- a word that is not empty and has only plain bytes
-pub run-plain : (w : List ℕ) → 0 < length w → allOf plain w ≡ true → runOf plain w ≡ true
-run-plain w h t = both-true (lt-ltb 0 (length w) h) t
 
 -- The type.
 
@@ -70,13 +66,6 @@ type-none w p q = number-none 2 typeWords w types-short (rw (ne-eqb (codeOf w) (
 pub type-reads : Reads typeOf (numbered 2 typeWords) goodType 0
 unfolding typeWords
 type-reads = numbers-reads 2 typeWords (lit< tt) (lit< tt) types-distinct
-
--- what holds of every word of a table holds of the word of a number
-numbered-all : (f : List ℕ → Bool) (first : ℕ) (table : List (List ℕ)) → 0 < length table → allOf f table ≡ true → (n : ℕ) → inNumbers first table n ≡ true → f (numbered first table n) ≡ true
-numbered-all f first table some t n g =
-    let low : first ≤ n = leb-true first n (both-left (leb first n) (leb n (first + length table - 1)) g) in
-    let high : n ≤ first + length table - 1 = leb-true n (first + length table - 1) (both-right (leb first n) (leb n (first + length table - 1)) g) in
-    rw (le-ltb n first low) (all-at f table [] t (n - first) (omega arith))
 
 length-type : (n : ℕ) → goodType n ≡ true → length (numbered 2 typeWords n) ≡ 2
 unfolding typeWords allOf
@@ -153,7 +142,7 @@ designator-reads =
     designator-spelled
     refl
 
-pub designator-plain : (d : Designator) → goodDesignator d ≡ true → runOf plain (spellDesignator d) ≡ true
+pub designator-plain : (d : Designator) → goodDesignator d ≡ true → plainWord (spellDesignator d) ≡ true
 unfolding spellDesignator
 designator-plain d t =
     run-plain (spellDesignator d) (omega (arith, length-designator d t))
@@ -199,7 +188,7 @@ correction-letter c g =
     let high : c ≤ 88 = leb-true c 88 (both-right (leb 65 c) (leb c 88) g) in
     both-true (both-left (leb 65 c) (leb c 88) g) (le-leb c 90 (omega arith))
 
-pub correction-plain : (c : ℕ) → goodCorrection c ≡ true → runOf plain (spellCorrection c) ≡ true
+pub correction-plain : (c : ℕ) → goodCorrection c ≡ true → plainWord (spellCorrection c) ≡ true
 unfolding allOf allowed
 correction-plain c g = rw (letter-plain c (correction-letter c g))
 
@@ -244,7 +233,7 @@ office-back w = by (officeTest w) (λ t. go t (four-letters-reads .back (part 0 
 pub office-reads : Reads officeOf spellOffice (goodLetters 4) 0
 office-reads = record { forth = office-forth; back = office-back; refuses = four-letters-reads .refuses }
 
-pub office-plain : (o : ℕ) → goodLetters 4 o ≡ true → runOf plain (spellOffice o) ≡ true
+pub office-plain : (o : ℕ) → goodLetters 4 o ≡ true → plainWord (spellOffice o) ≡ true
 unfolding allOf allowed
 office-plain o g =
     run-plain (spellOffice o) (omega (arith, length-office o)) (rw (all-append plain (inLetters 4 o) (bytes "-"), inLetters-plain 4 o g))

@@ -11,20 +11,19 @@ use lib.ListN.{length, getD, drop, length-drop}
 use lib.Seq.{drop-cons}
 use borrow.Author.Tests.{leb-true, le-leb, lt-leb, ltb-true, ne-eqb, eqb-true}
 use Rattle.lists.specs.Choice.{pick, both}
-use Rattle.lists.specs.Lists.{allOf, part}
+use Rattle.lists.specs.Lists.{part}
 use Rattle.lists.proofs.Choice.{by, both-left, both-right, both-true, both-false-left, either-cases, pick-false}
 use Rattle.lists.proofs.Lists.{all-at}
 use Rattle.lists.proofs.Parts.{part-rest}
-use Rattle.words.specs.Bytes.{between, letter, digit, plain}
-use Rattle.words.specs.Words.{runOf}
+use Rattle.words.specs.Bytes.{between, letter, digit}
+use Rattle.words.specs.Words.{plainWord}
 use Rattle.figures.specs.Figures.{threeOf, inFigures}
 use Rattle.figures.specs.Reads.{Reads}
 use Rattle.figures.proofs.FigureLaws.{length-inFigures, inFigures-digits, three-forth, three-back}
 use Rattle.figures.proofs.Kept.{kept-reads}
-use Rattle.figures.proofs.PlainLaws.{letter-plain, inFigures-plain}
+use Rattle.figures.proofs.PlainLaws.{letter-plain, inFigures-plain, run-plain, plain-cons}
 use Rattle.headings.specs.Sequences.{characters, goodSequence, noSequence, lettered, unlettered, sequenceOf, spellSequence}
 use Rattle.headings.specs.declared.Sequence.{Sequence}
-use Rattle.headings.proofs.HeadingLaws.{run-plain}
 
 pub ten-none : (d : ℕ) → (d ≡ 1 → ⊥) → (d ≡ 2 → ⊥) → (d ≡ 3 → ⊥) → 1 ≡ pick (between 1 3 d) (10 ^ d) 1
 ten-none d p q r =
@@ -132,9 +131,8 @@ unfolding sequenceOf goodSequence
 sequence-reads =
     kept-reads (λ (w : List ℕ). between 1 3 (length w)) sequenceValue spellSequence goodSequence noSequence sequence-passes sequence-gives sequence-spelled refl
 
-pub sequence-plain : (s : Sequence) → goodSequence s ≡ true → runOf plain (spellSequence s) ≡ true
-unfolding allOf
+pub sequence-plain : (s : Sequence) → goodSequence s ≡ true → plainWord (spellSequence s) ≡ true
 sequence-plain s g =
     by-form s (good-characters s g)
     (λ e l h. rw (spell-bare s e) (run-plain (inFigures (s .digits) (s .number)) (omega (arith, length-inFigures (s .digits) (s .number))) (inFigures-plain (s .digits) (s .number))))
-    (λ e l h. rw (spell-lettered s e) (run-plain (s .letter ∷ inFigures (s .digits) (s .number)) (omega arith) (both-true (letter-plain (s .letter) e) (inFigures-plain (s .digits) (s .number)))))
+    (λ e l h. rw (spell-lettered s e) (plain-cons (s .letter) (inFigures (s .digits) (s .number)) (letter-plain (s .letter) e) (inFigures-plain (s .digits) (s .number))))

@@ -1,6 +1,6 @@
 -- A level that is one word, and the word: reading and spelling undo one another.
 -- Assumes nothing.
-use mathlib.Core.Bool.{Bool, true, false, not}
+use mathlib.Core.Bool.{Bool, true, false}
 use mathlib.Core.List.{List, _∷_, _++_}
 use mathlib.Core.Logic.{_⊎_, inl, inr}
 use mathlib.Core.Path.{_≡_, refl, ap, sym, _∙_}
@@ -15,13 +15,15 @@ use Rattle.lists.specs.Choice.{pick, both}
 use Rattle.lists.specs.Lists.{allOf, part, same}
 use Rattle.lists.specs.Base.{places}
 use Rattle.lists.specs.Text.{bytes}
-use Rattle.lists.proofs.Choice.{by, clash, both-left, both-right, both-true, either-left, either-right}
-use Rattle.lists.proofs.Lists.{same-is, all-weaken, all-append}
+use Rattle.lists.proofs.Choice.{by, clash, both-left, both-right}
+use Rattle.lists.proofs.Lists.{same-is, all-append}
 use Rattle.lists.proofs.Parts.{joined, joined-one, last}
-use Rattle.words.specs.Bytes.{between, letter, digit, allowed, solid, equals}
+use Rattle.words.specs.Bytes.{between, allowed, plain}
+use Rattle.words.specs.Words.{plainWord}
 use Rattle.figures.specs.Figures.{figuresOf, inFigures}
 use Rattle.figures.specs.Reads.{Reads, kept}
-use Rattle.figures.proofs.FigureLaws.{digit-low, figures-forth, figures-part, inFigures-digits}
+use Rattle.figures.proofs.FigureLaws.{figures-forth, figures-part}
+use Rattle.figures.proofs.PlainLaws.{inFigures-plain, run-plain}
 use Rattle.levels.specs.declared.Level.{Level}
 use Rattle.levels.specs.declared.Level.the-variants.{NoLevel, Flight, SurfaceFlight, SurfaceMetres, SurfaceFeet, Band, TopFlight, AboveFlight, TopAboveFlight}
 use Rattle.levels.specs.Levels.{flight, goodBand, goodLevelWord, feetFigures, spellLevelWord, five, surfaceNine, bandNine, nine, tenEleven, levelOf, goodLevel, emptyLevel}
@@ -163,48 +165,20 @@ good-level-word (TopFlight n) g = clash false g refl
 good-level-word (AboveFlight n) g = clash false g refl
 good-level-word (TopAboveFlight n) g = clash false g refl
 
--- The bytes of a spelled level.
-
--- a byte that may stand within a word
-abbrev pub plain : ℕ → Bool
-plain x = both (allowed x) (both (solid x) (not (equals x)))
-
-pub digit-plain : (x : ℕ) → digit x ≡ true → plain x ≡ true
-unfolding allowed
-digit-plain x d =
-    let low : 48 ≤ x = digit-low x d in
-    let high : x ≤ 57 = upto 48 57 x d in
-    let spaced : solid x ≡ true = rw (ne-eqb x 32 (λ e. omega arith), ne-eqb x 13 (λ e. omega arith), ne-eqb x 10 (λ e. omega arith)) in
-    let other : not (equals x) ≡ true = rw (ne-eqb x 61 (λ e. omega arith)) in
-    both-true (either-right (letter x) (either-left _ d)) (both-true spaced other)
-
-pub figures-plain : (k n : ℕ) → allOf plain (inFigures k n) ≡ true
-figures-plain k n = all-weaken digit plain digit-plain (inFigures k n) (inFigures-digits k n)
+-- What is spelled is a word of plain bytes.
 
 -- figures and a fixed word after them
 before : (k n : ℕ) (s : List ℕ) → allOf plain s ≡ true → allOf plain (inFigures k n ++ s) ≡ true
-before k n s t = rw (all-append plain (inFigures k n) s, figures-plain k n, t)
+before k n s t = rw (all-append plain (inFigures k n) s, inFigures-plain k n, t)
 
-pub level-plain : (l : Level) → goodLevelWord l ≡ true → allOf plain (spellLevelWord l) ≡ true
+pub level-plain : (l : Level) → goodLevelWord l ≡ true → plainWord (spellLevelWord l) ≡ true
 unfolding spellLevelWord goodLevelWord allOf allowed
-level-plain NoLevel g = refl
-level-plain (Flight n) g = figures-plain 3 n
-level-plain (SurfaceFlight n) g = figures-plain 3 n
-level-plain (SurfaceMetres n) g = before 4 n (bytes "M") refl
-level-plain (SurfaceFeet n) g = before (feetFigures n) n (bytes "FT") refl
-level-plain (Band low high) g = before 3 low (code "/" ∷ inFigures 3 high) (figures-plain 3 high)
-level-plain (TopFlight n) g = refl
-level-plain (AboveFlight n) g = refl
-level-plain (TopAboveFlight n) g = refl
-
-pub level-some : (l : Level) → goodLevelWord l ≡ true → 0 < length (spellLevelWord l)
-unfolding spellLevelWord goodLevelWord
-level-some NoLevel g = clash false g refl
-level-some (Flight n) g = suc-le-suc zero-le
-level-some (SurfaceFlight n) g = suc-le-suc zero-le
-level-some (SurfaceMetres n) g = suc-le-suc zero-le
-level-some (SurfaceFeet n) g = suc-le-suc zero-le
-level-some (Band low high) g = suc-le-suc zero-le
-level-some (TopFlight n) g = clash false g refl
-level-some (AboveFlight n) g = clash false g refl
-level-some (TopAboveFlight n) g = clash false g refl
+level-plain NoLevel g = clash false g refl
+level-plain (Flight n) g = run-plain (spellLevelWord (Flight n)) (suc-le-suc zero-le) (inFigures-plain 3 n)
+level-plain (SurfaceFlight n) g = run-plain (spellLevelWord (SurfaceFlight n)) (suc-le-suc zero-le) (inFigures-plain 3 n)
+level-plain (SurfaceMetres n) g = run-plain (spellLevelWord (SurfaceMetres n)) (suc-le-suc zero-le) (before 4 n (bytes "M") refl)
+level-plain (SurfaceFeet n) g = run-plain (spellLevelWord (SurfaceFeet n)) (suc-le-suc zero-le) (before (feetFigures n) n (bytes "FT") refl)
+level-plain (Band low high) g = run-plain (spellLevelWord (Band low high)) (suc-le-suc zero-le) (before 3 low (code "/" ∷ inFigures 3 high) (inFigures-plain 3 high))
+level-plain (TopFlight n) g = clash false g refl
+level-plain (AboveFlight n) g = clash false g refl
+level-plain (TopAboveFlight n) g = clash false g refl
