@@ -16,15 +16,16 @@ use Rattle.lists.proofs.Choice.{both-left, both-right, both-true, pick-true}
 use Rattle.lists.proofs.Lists.{all-map, all-weaken, length-part}
 use Rattle.lists.proofs.Base.{worth-places, places-worth, worth-lt, length-places, places-small}
 use Rattle.words.specs.Bytes.{digit}
+use Rattle.words.proofs.Ranges.{between-low, between-high}
 use Rattle.figures.specs.Figures.{figure, asFigure, figuresOf, inFigures, capped, twoOf, threeOf}
 
 -- One figure.
 
 pub digit-low : (x : ℕ) → digit x ≡ true → 48 ≤ x
-digit-low x e = leb-true 48 x (both-left (leb 48 x) (leb x 57) e)
+digit-low x e = between-low 48 57 x e
 
 pub figure-small : (x : ℕ) → digit x ≡ true → figure x < 10
-figure-small x e = omega (arith, leb-true x 57 (both-right (leb 48 x) (leb x 57) e))
+figure-small x e = omega (arith, between-high 48 57 x e)
 
 as-figure-digit : (d : ℕ) → ltb d 10 ≡ true → digit (asFigure d) ≡ true
 as-figure-digit d e = both-true (le-leb 48 (d + 48) (omega arith)) (le-leb (d + 48) 57 (omega (arith, ltb-true d 10 e)))

@@ -8,7 +8,7 @@ use Prim.Native.Nat.{ℕ, zero, suc, _^_, _≤_, _<_}
 use native.Mathlib.Omega.{arith}
 use lib.Dec.{leb, ltb, eqb, lit<}
 use lib.ListN.{length}
-use borrow.Author.Tests.{leb-true, le-leb, eq-eqb, eqb-true, lt-ltb, ltb-true}
+use borrow.Author.Tests.{le-leb, eq-eqb, eqb-true, lt-ltb, ltb-true}
 use Rattle.lists.specs.Choice.{both}
 use Rattle.lists.specs.Lists.{allOf}
 use Rattle.lists.specs.Base.{worth, places}
@@ -16,11 +16,12 @@ use Rattle.lists.proofs.Choice.{by, both-left, both-right, both-false-right, pi
 use Rattle.lists.proofs.Lists.{all-append, all-weaken}
 use Rattle.lists.proofs.Base.{worth-places, places-worth, worth-lt, length-places}
 use Rattle.words.specs.Bytes.{letter}
+use Rattle.words.proofs.Ranges.{between-high}
 use Rattle.figures.specs.Reads.{Reads}
 use Rattle.figures.specs.Letters.{lettersOf, inLetters, goodLetters}
 
 pub letter-small : (x : ℕ) → letter x ≡ true → x < 256
-letter-small x e = omega (arith, leb-true x 90 (both-right (leb 65 x) (leb x 90) e))
+letter-small x e = omega (arith, between-high 65 90 x e)
 
 -- the ways out of the loop that reads letters
 pub letters-barred : (k : ℕ) (w : List ℕ) → allOf letter w ≡ false → 0 ≡ lettersOf k w

@@ -5,15 +5,16 @@ use mathlib.Core.List.{List, _∷_}
 use mathlib.Core.Path.{_≡_}
 use Prim.Native.Nat.{ℕ, _≤_, _<_, zero-le, suc-le-suc}
 use native.Mathlib.Omega.{arith}
-use lib.Dec.{leb, eqb}
+use lib.Dec.{eqb}
 use lib.ListN.{length}
-use borrow.Author.Tests.{leb-true, ne-eqb}
+use borrow.Author.Tests.{ne-eqb}
 use Rattle.lists.specs.Choice.{both, either}
 use Rattle.lists.specs.Lists.{allOf}
 use Rattle.lists.proofs.Choice.{both-left, both-right, both-true, either-left, either-right}
 use Rattle.lists.proofs.Lists.{all-weaken}
 use Rattle.words.specs.Bytes.{letter, digit, blank, solid, stroke, bracket, equals, allowed, plain}
 use Rattle.words.specs.Words.{solidWord, plainWord}
+use Rattle.words.proofs.Ranges.{between-low, between-high}
 use Rattle.words.proofs.Words.{run-of, run-some, run-all}
 use Rattle.figures.specs.Figures.{inFigures}
 use Rattle.figures.specs.Letters.{inLetters, goodLetters}
@@ -32,14 +33,14 @@ plain-above x a h e =
 pub digit-plain : (x : ℕ) → digit x ≡ true → plain x ≡ true
 unfolding allowed
 digit-plain x d =
-    let low : 48 ≤ x = leb-true 48 x (both-left (leb 48 x) (leb x 57) d) in
-    let high : x ≤ 57 = leb-true x 57 (both-right (leb 48 x) (leb x 57) d) in
+    let low : 48 ≤ x = between-low 48 57 x d in
+    let high : x ≤ 57 = between-high 48 57 x d in
     plain-above x (either-right (letter x) (either-left (either (blank x) (either (stroke x) (either (bracket x) (equals x)))) d)) (omega arith) (λ q. omega arith)
 
 pub letter-plain : (x : ℕ) → letter x ≡ true → plain x ≡ true
 unfolding allowed
 letter-plain x l =
-    let low : 65 ≤ x = leb-true 65 x (both-left (leb 65 x) (leb x 90) l) in
+    let low : 65 ≤ x = between-low 65 90 x l in
     plain-above x (either-left (either (digit x) (either (blank x) (either (stroke x) (either (bracket x) (equals x))))) l) (omega arith) (λ q. omega arith)
 
 pub digits-plain : (w : List ℕ) → allOf digit w ≡ true → allOf plain w ≡ true

@@ -16,6 +16,7 @@ use Rattle.lists.proofs.Lists.{all-append, length-part}
 use Rattle.lists.proofs.Parts.{part-whole, part-here, part-past, at-past, part-join, part-cons, marked, marked-true, marked-long, marked-at}
 use Rattle.words.specs.Bytes.{between, allowed, plain}
 use Rattle.words.specs.Words.{plainWord}
+use Rattle.words.proofs.Ranges.{between-high}
 use Rattle.figures.specs.Figures.{inFigures, twoOf}
 use Rattle.figures.specs.Reads.{Reads}
 use Rattle.figures.proofs.FigureLaws.{length-inFigures, two-forth, two-back}
@@ -59,7 +60,7 @@ clock-minute h m g = omega (arith, leb-true m 59 (both-right (leb h 23) (leb m 5
 module _ (g : Group) (t : goodGroup g ≡ true) where
   good-day : g .day < 100
   unfolding goodGroup
-  good-day = omega (arith, leb-true (g .day) 31 (both-right (leb 1 (g .day)) (leb (g .day) 31) (both-left (between 1 31 (g .day)) (onClock (g .hour) (g .minute)) t)))
+  good-day = omega (arith, between-high 1 31 (g .day) (both-left (between 1 31 (g .day)) (onClock (g .hour) (g .minute)) t))
 
   good-clock : onClock (g .hour) (g .minute) ≡ true
   unfolding goodGroup

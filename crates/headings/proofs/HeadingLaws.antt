@@ -1,6 +1,6 @@
 -- The words of the heading and the office: each reader and its spelling undo one another, and each spelling is a word.
 -- Assumes nothing.
-use mathlib.Core.Bool.{Bool, true, false}
+use mathlib.Core.Bool.{Bool, true}
 use mathlib.Core.List.{List, _++_}
 use mathlib.Core.Logic.{_⊎_, inl, inr}
 use mathlib.Core.Path.{_≡_, refl}
@@ -14,11 +14,12 @@ use Rattle.lists.specs.Choice.{both}
 use Rattle.lists.specs.Lists.{allOf, same, part}
 use Rattle.lists.specs.Base.{places}
 use Rattle.lists.specs.Text.{bytes}
-use Rattle.lists.proofs.Choice.{by, both-left, both-right, both-true}
+use Rattle.lists.proofs.Choice.{by, both-unit, both-left, both-right, both-true}
 use Rattle.lists.proofs.Lists.{all-append, length-part}
 use Rattle.lists.proofs.Parts.{part-whole, part-here, part-past, at-past, part-join, part-cons, marked, marked-long, marked-at}
 use Rattle.words.specs.Bytes.{letter, allowed, plain}
 use Rattle.words.specs.Words.{plainWord}
+use Rattle.words.proofs.Ranges.{between-high}
 use Rattle.figures.specs.Figures.{twoOf, inFigures}
 use Rattle.figures.specs.Letters.{lettersOf, inLetters, goodLetters}
 use Rattle.figures.specs.Keywords.{short, codeOf, distinct, wordOf}
@@ -33,10 +34,6 @@ use Rattle.headings.specs.Headings.{typeWords, typeOf, goodType, goodDes
 use Rattle.headings.specs.declared.Designator.{Designator}
 
 -- The tests of letters, place by place.
-
-both-unit : (b : Bool) → both b true ≡ b
-both-unit true = refl
-both-unit false = refl
 
 pub two-good : (n : ℕ) → both (ltb n 65536) (both (letter (n / 256 % 256)) (letter (n % 256))) ≡ goodLetters 2 n
 unfolding goodLetters places allOf
@@ -185,7 +182,7 @@ correction-reads =
 correction-letter : (c : ℕ) → goodCorrection c ≡ true → letter c ≡ true
 unfolding goodCorrection
 correction-letter c g =
-    let high : c ≤ 88 = leb-true c 88 (both-right (leb 65 c) (leb c 88) g) in
+    let high : c ≤ 88 = between-high 65 88 c g in
     both-true (both-left (leb 65 c) (leb c 88) g) (le-leb c 90 (omega arith))
 
 pub correction-plain : (c : ℕ) → goodCorrection c ≡ true → plainWord (spellCorrection c) ≡ true

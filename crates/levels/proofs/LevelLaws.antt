@@ -8,9 +8,9 @@ use Prim.Native.Nat.{ℕ, _+_, _-_, _/_, _%_, _≤_, _<_, zero-le, suc-le-suc}
 use Prim.Native.Char.{code}
 use native.Mathlib.Nat.{mod-lt}
 use native.Mathlib.Omega.{arith}
-use lib.Dec.{leb, ltb, eqb, lit<}
+use lib.Dec.{ltb, eqb, lit<}
 use lib.ListN.{length, getD, drop}
-use borrow.Author.Tests.{leb-true, ltb-true, eqb-true, ne-eqb}
+use borrow.Author.Tests.{ltb-true, eqb-true, ne-eqb}
 use Rattle.lists.specs.Choice.{pick, both}
 use Rattle.lists.specs.Lists.{allOf, part, same}
 use Rattle.lists.specs.Base.{places}
@@ -20,6 +20,7 @@ use Rattle.lists.proofs.Lists.{same-is, all-append}
 use Rattle.lists.proofs.Parts.{joined, joined-one, last}
 use Rattle.words.specs.Bytes.{between, allowed, plain}
 use Rattle.words.specs.Words.{plainWord}
+use Rattle.words.proofs.Ranges.{between-low, between-high}
 use Rattle.figures.specs.Figures.{figuresOf, inFigures}
 use Rattle.figures.specs.Reads.{Reads, kept}
 use Rattle.figures.proofs.FigureLaws.{figures-forth, figures-part}
@@ -27,9 +28,6 @@ use Rattle.figures.proofs.PlainLaws.{inFigures-plain, run-plain}
 use Rattle.levels.specs.declared.Level.{Level}
 use Rattle.levels.specs.declared.Level.the-variants.{NoLevel, Flight, SurfaceFlight, SurfaceMetres, SurfaceFeet, Band, TopFlight, AboveFlight, TopAboveFlight}
 use Rattle.levels.specs.Levels.{flight, goodBand, goodLevelWord, feetFigures, spellLevelWord, five, surfaceNine, bandNine, nine, tenEleven, levelOf, goodLevel, emptyLevel}
-
-upto : (a b n : ℕ) → between a b n ≡ true → n ≤ b
-upto a b n t = leb-true n b (both-right (leb a n) (leb n b) t)
 
 band-low : (low high : ℕ) → goodBand low high ≡ true → flight low ≡ true
 band-low low high g = both-left (flight low) (both (flight high) (ltb low high)) g
@@ -50,18 +48,18 @@ unfolding levelOf places same
 feet-forth n g =
     by (ltb n 10000)
     (λ e. rw (e, figures-forth 4 n (omega arith) (omega (arith, ltb-true n 10000 e)), g, e))
-    (λ e. rw (e, figures-forth 5 n (omega arith) (omega (arith, upto 1 99999 n g)), g, e))
+    (λ e. rw (e, figures-forth 5 n (omega arith) (omega (arith, between-high 1 99999 n g)), g, e))
 
 forth : (l : Level) → goodLevelWord l ≡ true → levelOf (spellLevelWord l) ≡ l
 unfolding levelOf spellLevelWord goodLevelWord places same
 forth NoLevel g = clash false g refl
-forth (Flight n) g = rw (figures-forth 3 n (omega arith) (omega (arith, upto 1 999 n g)), g)
-forth (SurfaceFlight n) g = rw (figures-forth 3 n (omega arith) (omega (arith, upto 1 999 n g)), g)
-forth (SurfaceMetres n) g = rw (no-flight n, figures-forth 4 n (omega arith) (omega (arith, upto 1 9999 n g)), g)
+forth (Flight n) g = rw (figures-forth 3 n (omega arith) (omega (arith, between-high 1 999 n g)), g)
+forth (SurfaceFlight n) g = rw (figures-forth 3 n (omega arith) (omega (arith, between-high 1 999 n g)), g)
+forth (SurfaceMetres n) g = rw (no-flight n, figures-forth 4 n (omega arith) (omega (arith, between-high 1 9999 n g)), g)
 forth (SurfaceFeet n) g = feet-forth n g
 forth (Band low high) g =
     rw
-    (figures-forth 3 low (omega arith) (omega (arith, upto 1 999 low (band-low low high g))), figures-forth 3 high (omega arith) (omega (arith, upto 1 999 high (band-high low high g))), g)
+    (figures-forth 3 low (omega arith) (omega (arith, between-high 1 999 low (band-low low high g))), figures-forth 3 high (omega arith) (omega (arith, between-high 1 999 high (band-high low high g))), g)
 forth (TopFlight n) g = clash false g refl
 forth (AboveFlight n) g = clash false g refl
 forth (TopAboveFlight n) g = clash false g refl
@@ -86,7 +84,7 @@ kept-back w l p = picked w (goodLevelWord l) (λ g. inr (g, sym (p g))) (λ f. n
 
 -- the figures of a part whose number is in range
 in-range : (w : List ℕ) (a e b : ℕ) → a ≤ e → e ≤ length w → b < 100000 → between 1 b (figuresOf (part a e w)) ≡ true → part a e w ≡ inFigures (e - a) (figuresOf (part a e w))
-in-range w a e b h k l t = figures-part w a e h k (omega (arith, upto 1 b (figuresOf (part a e w)) t))
+in-range w a e b h k l t = figures-part w a e h k (omega (arith, between-high 1 b (figuresOf (part a e w)) t))
 
 five-back : (w : List ℕ) → length w ≡ 5 → Back w (five w)
 unfolding goodLevelWord spellLevelWord
@@ -133,7 +131,7 @@ unfolding levelOf
 back w =
     picked w (eqb (length w) 5) (λ e. five-back w (eqb-true _ _ e))
     (λ f. picked w (eqb (length w) 9) (λ e. nine-back w (eqb-true _ _ e))
-    (λ f. picked w (between 10 11 (length w)) (λ e. feet-back w (leb-true _ _ (both-left _ _ e))) (λ f. none w)))
+    (λ f. picked w (between 10 11 (length w)) (λ e. feet-back w (between-low 10 11 (length w) e)) (λ f. none w)))
 
 pub level-reads : Reads levelOf spellLevelWord goodLevelWord NoLevel
 unfolding goodLevelWord

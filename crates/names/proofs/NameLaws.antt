@@ -15,7 +15,7 @@ use Rattle.lists.specs.Base.{worthAfter}
 use Rattle.lists.specs.Choice.{both}
 use Rattle.lists.specs.Lists.{indexOf, indexFrom, allOf, part, same}
 use Rattle.lists.specs.Text.{bytes}
-use Rattle.lists.proofs.Choice.{by, clash, both-left, both-right, both-true, either-cases}
+use Rattle.lists.proofs.Choice.{by, clash, both-unit, both-left, both-right, both-true, either-cases}
 use Rattle.lists.proofs.Lists.{index-found, index-clear, index-all, all-append, all-weaken}
 use Rattle.lists.proofs.Parts.{part-rest}
 use Rattle.words.specs.Bytes.{letter, solid, allowed, plain}
@@ -137,7 +137,7 @@ pieces-line (w ∷ v ∷ ws) h t =
 
 all-one : (f : List ℕ → Bool) (w : List ℕ) → allOf f (w ∷ []) ≡ f w
 unfolding allOf
-all-one f w = by (f w) (λ e. rw e) (λ e. rw e)
+all-one f w = both-unit (f w)
 
 -- What `name_text` keeps: all pieces from place `at` on are still to be tested, and the first of them ends at place `stop`.
 
