@@ -2,7 +2,7 @@
 -- Assumes nothing.
 use mathlib.Core.Bool.{Bool, true}
 use mathlib.Core.List.{List, _++_}
-use mathlib.Core.Logic.{_⊎_, inl, inr}
+use mathlib.Core.Logic.{inl, inr}
 use mathlib.Core.Path.{_≡_, refl}
 use Prim.Native.Char.{code}
 use Prim.Native.Nat.{ℕ, _+_, _-_, _/_, _%_, _^_, _≤_, _<_}
@@ -26,7 +26,7 @@ use Rattle.figures.specs.Keywords.{short, codeOf, distinct, wordOf}
 use Rattle.figures.specs.Reads.{Reads}
 use Rattle.figures.specs.Tables.{numbered}
 use Rattle.figures.proofs.FigureLaws.{length-inFigures, two-forth, two-back}
-use Rattle.figures.proofs.Kept.{kept-reads, reads-spelled}
+use Rattle.figures.proofs.Kept.{Back, kept-reads, reads-spelled}
 use Rattle.figures.proofs.LetterLaws.{length-inLetters, letters-reads}
 use Rattle.figures.proofs.PlainLaws.{letter-plain, inFigures-plain, inLetters-plain, run-plain}
 use Rattle.figures.proofs.TableLaws.{number-at, number-none, numbered-all, numbers-reads}
@@ -219,11 +219,11 @@ office-joined w t =
     )
     (part-whole w 5 l)
 
-office-back : (w : List ℕ) → (officeOf w ≡ 0) ⊎ ((goodLetters 4 (officeOf w) ≡ true) × (spellOffice (officeOf w) ≡ w))
+office-back : (w : List ℕ) → Back spellOffice (goodLetters 4) 0 w (officeOf w)
 unfolding officeOf
 office-back w = by (officeTest w) (λ t. go t (four-letters-reads .back (part 0 4 w))) (λ f. inl (rw f))
   where
-    go : officeTest w ≡ true → (lettersOf 4 (part 0 4 w) ≡ 0) ⊎ ((goodLetters 4 (lettersOf 4 (part 0 4 w)) ≡ true) × (inLetters 4 (lettersOf 4 (part 0 4 w)) ≡ part 0 4 w)) → (officeOf w ≡ 0) ⊎ ((goodLetters 4 (officeOf w) ≡ true) × (spellOffice (officeOf w) ≡ w))
+    go : officeTest w ≡ true → Back (inLetters 4) (goodLetters 4) 0 (part 0 4 w) (lettersOf 4 (part 0 4 w)) → Back spellOffice (goodLetters 4) 0 w (officeOf w)
     go t (inl e) = inl (rw t e)
     go t (inr p) = inr (rw t (p .0), rw (t, p .1) (office-joined w t))
 

@@ -2,7 +2,7 @@
 -- Assumes nothing.
 use mathlib.Core.Bool.{Bool, true, false}
 use mathlib.Core.List.{List, _∷_, _++_}
-use mathlib.Core.Logic.{_⊎_, inl, inr}
+use mathlib.Core.Logic.{inl, inr}
 use mathlib.Core.Path.{_≡_, refl, ap, sym, _∙_}
 use Prim.Native.Nat.{ℕ, _+_, _-_, _/_, _%_, _≤_, _<_, zero-le, suc-le-suc}
 use Prim.Native.Char.{code}
@@ -24,6 +24,7 @@ use Rattle.words.proofs.Ranges.{between-low, between-high}
 use Rattle.figures.specs.Figures.{figuresOf, inFigures}
 use Rattle.figures.specs.Reads.{Reads, kept}
 use Rattle.figures.proofs.FigureLaws.{figures-forth, figures-part}
+use Rattle.figures.proofs.Kept.{Back, kept-back}
 use Rattle.figures.proofs.PlainLaws.{inFigures-plain, run-plain}
 use Rattle.levels.specs.declared.Level.{Level}
 use Rattle.levels.specs.declared.Level.the-variants.{NoLevel, Flight, SurfaceFlight, SurfaceMetres, SurfaceFeet, Band, TopFlight, AboveFlight, TopAboveFlight}
@@ -66,55 +67,55 @@ forth (TopAboveFlight n) g = clash false g refl
 
 -- Back. What is read from a word is no level, or a good one of which the word is the spelling.
 
-abbrev Back : List ℕ → Level → Type 0
-Back w l = (l ≡ NoLevel) ⊎ ((goodLevelWord l ≡ true) × (spellLevelWord l ≡ w))
+abbrev Read : List ℕ → Level → Type 0
+Read w l = Back spellLevelWord goodLevelWord NoLevel w l
 
-none : (w : List ℕ) → Back w NoLevel
+none : (w : List ℕ) → Read w NoLevel
 none w = inl refl
 
-picked : (w : List ℕ) (b : Bool) {x y : Level} → (b ≡ true → Back w x) → (b ≡ false → Back w y) → Back w (pick b x y)
+picked : (w : List ℕ) (b : Bool) {x y : Level} → (b ≡ true → Read w x) → (b ≡ false → Read w y) → Read w (pick b x y)
 picked w true p q = p refl
 picked w false p q = q refl
 
-chosen : (w : List ℕ) (b c : Bool) {x : Level} → (b ≡ true → c ≡ true → Back w x) → Back w (pick (both b c) x NoLevel)
+chosen : (w : List ℕ) (b c : Bool) {x : Level} → (b ≡ true → c ≡ true → Read w x) → Read w (pick (both b c) x NoLevel)
 chosen w b c p = picked w (both b c) (λ t. p (both-left b c t) (both-right b c t)) (λ f. none w)
 
-kept-back : (w : List ℕ) (l : Level) → (goodLevelWord l ≡ true → drop 0 w ≡ spellLevelWord l) → Back w (kept goodLevelWord NoLevel l)
-kept-back w l p = picked w (goodLevelWord l) (λ g. inr (g, sym (p g))) (λ f. none w)
+spelled : (w : List ℕ) (l : Level) → (goodLevelWord l ≡ true → drop 0 w ≡ spellLevelWord l) → Read w (kept goodLevelWord NoLevel l)
+spelled w l p = kept-back spellLevelWord goodLevelWord NoLevel w l (λ g. sym (p g))
 
 -- the figures of a part whose number is in range
 in-range : (w : List ℕ) (a e b : ℕ) → a ≤ e → e ≤ length w → b < 100000 → between 1 b (figuresOf (part a e w)) ≡ true → part a e w ≡ inFigures (e - a) (figuresOf (part a e w))
 in-range w a e b h k l t = figures-part w a e h k (omega (arith, between-high 1 b (figuresOf (part a e w)) t))
 
-five-back : (w : List ℕ) → length w ≡ 5 → Back w (five w)
+five-back : (w : List ℕ) → length w ≡ 5 → Read w (five w)
 unfolding goodLevelWord spellLevelWord
 five-back w n =
     picked w (same (part 0 2 w) (bytes "FL"))
-    (λ fl. kept-back w (Flight (figuresOf (part 2 5 w))) (λ g. joined w 0 2 (omega arith) (same-is _ _ fl) (last w 2 5 n (in-range w 2 5 999 (omega arith) (omega arith) (omega arith) g))))
+    (λ fl. spelled w (Flight (figuresOf (part 2 5 w))) (λ g. joined w 0 2 (omega arith) (same-is _ _ fl) (last w 2 5 n (in-range w 2 5 999 (omega arith) (omega arith) (omega arith) g))))
     (λ f. none w)
 
 module _ (w : List ℕ) (n : length w ≡ 9) where
-  surface-back : part 0 4 w ≡ bytes "SFC/" → Back w (surfaceNine w)
+  surface-back : part 0 4 w ≡ bytes "SFC/" → Read w (surfaceNine w)
   unfolding goodLevelWord spellLevelWord
   surface-back sfc =
       picked w (same (part 4 6 w) (bytes "FL"))
-      (λ fl. kept-back w (SurfaceFlight (figuresOf (part 6 9 w))) (λ g. joined w 0 4 (omega arith) sfc (joined w 4 6 (omega arith) (same-is _ _ fl) (last w 6 9 n (in-range w 6 9 999 (omega arith) (omega arith) (omega arith) g)))))
+      (λ fl. spelled w (SurfaceFlight (figuresOf (part 6 9 w))) (λ g. joined w 0 4 (omega arith) sfc (joined w 4 6 (omega arith) (same-is _ _ fl) (last w 6 9 n (in-range w 6 9 999 (omega arith) (omega arith) (omega arith) g)))))
       (λ f. picked w (eqb (getD w 8 0) (code "M"))
-      (λ m. kept-back w (SurfaceMetres (figuresOf (part 4 8 w))) (λ g. joined w 0 4 (omega arith) sfc (joined w 4 8 (omega arith) (in-range w 4 8 9999 (omega arith) (omega arith) (omega arith) g) (joined-one w 8 0 (omega arith) (eqb-true _ _ m) (last w 9 9 n refl)))))
+      (λ m. spelled w (SurfaceMetres (figuresOf (part 4 8 w))) (λ g. joined w 0 4 (omega arith) sfc (joined w 4 8 (omega arith) (in-range w 4 8 9999 (omega arith) (omega arith) (omega arith) g) (joined-one w 8 0 (omega arith) (eqb-true _ _ m) (last w 9 9 n refl)))))
       (λ f. none w))
 
-  band-back : Back w (bandNine w)
+  band-back : Read w (bandNine w)
   unfolding goodLevelWord spellLevelWord
   band-back =
       chosen w (same (part 0 2 w) (bytes "FL")) (eqb (getD w 5 0) (code "/"))
-      (λ fl s. kept-back w (Band (figuresOf (part 2 5 w)) (figuresOf (part 6 9 w))) (λ g. joined w 0 2 (omega arith) (same-is _ _ fl)
+      (λ fl s. spelled w (Band (figuresOf (part 2 5 w)) (figuresOf (part 6 9 w))) (λ g. joined w 0 2 (omega arith) (same-is _ _ fl)
       (joined w 2 5 (omega arith) (in-range w 2 5 999 (omega arith) (omega arith) (omega arith) (band-low (figuresOf (part 2 5 w)) (figuresOf (part 6 9 w)) g))
       (joined-one w 5 0 (omega arith) (eqb-true _ _ s) (last w 6 9 n (in-range w 6 9 999 (omega arith) (omega arith) (omega arith) (band-high (figuresOf (part 2 5 w)) (figuresOf (part 6 9 w)) g)))))))
 
-  nine-back : Back w (nine w)
+  nine-back : Read w (nine w)
   nine-back = picked w (same (part 0 4 w) (bytes "SFC/")) (λ sfc. surface-back (same-is _ _ sfc)) (λ f. band-back)
 
-feet-back : (w : List ℕ) → 10 ≤ length w → Back w (tenEleven w)
+feet-back : (w : List ℕ) → 10 ≤ length w → Read w (tenEleven w)
 unfolding goodLevelWord spellLevelWord
 feet-back w n =
     chosen w (same (part 0 4 w) (bytes "SFC/")) (same (drop (length w - 2) w) (bytes "FT"))
@@ -126,7 +127,7 @@ feet-back w n =
           (joined w 4 (length w - 2) (omega arith) (in-range w 4 (length w - 2) 99999 (omega arith) (omega arith) (omega arith) g ∙ ap (λ (i : ℕ). inFigures i (figuresOf (part 4 (length w - 2) w))) few) (same-is _ _ ft))),
     )))
 
-back : (w : List ℕ) → Back w (levelOf w)
+back : (w : List ℕ) → Read w (levelOf w)
 unfolding levelOf
 back w =
     picked w (eqb (length w) 5) (λ e. five-back w (eqb-true _ _ e))
