@@ -2,7 +2,7 @@
 -- Assumes nothing.
 use mathlib.Core.Bool.{Bool, true, false, not}
 use mathlib.Core.List.{List, [], _∷_}
-use mathlib.Core.Logic.{_⊎_, inl, inr}
+use mathlib.Core.Logic.{inl, inr}
 use mathlib.Core.Path.{_≡_, refl, ap, sym, _∙_}
 use Prim.Native.Nat.{ℕ, _+_, _-_, _≤_, _<_}
 use native.Mathlib.Nat.{add-sub-cancel-left}
@@ -17,6 +17,7 @@ use Rattle.words.proofs.Ranges.{between-low, between-high}
 use Rattle.figures.specs.Reads.{Reads}
 use Rattle.figures.specs.Keywords.{short, codeOf, wordIn, wordOf, inTable, distinct}
 use Rattle.figures.specs.Tables.{numberIn, numbered, inNumbers}
+use Rattle.figures.proofs.Kept.{Back}
 use Rattle.figures.proofs.Keywords.{same-code, code-tells, table-reads}
 
 -- a word with the code of the table's word k has number first + k
@@ -59,7 +60,7 @@ module _ (first : ℕ) (table : List (List ℕ)) (pos : 0 < first) (some : 0 < l
       let back : wordIn table (wordOf table (n - first)) ≡ n - first = table-reads table d .forth (n - first) (lt-ltb (n - first) (length table) within) in
       rw (word, back, lt-ltb (n - first) (length table) within) (omega arith)
 
-  number-back : (w : List ℕ) → (numberIn first table w ≡ 0) ⊎ ((inNumbers first table (numberIn first table w) ≡ true) × (numbered first table (numberIn first table w) ≡ w))
+  number-back : (w : List ℕ) → Back (numbered first table) (inNumbers first table) 0 w (numberIn first table w)
   number-back w =
       by (inTable table (wordIn table w))
       (λ e. inr (found e))

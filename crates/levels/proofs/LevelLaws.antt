@@ -17,7 +17,7 @@ use Rattle.lists.specs.Base.{places}
 use Rattle.lists.specs.Text.{bytes}
 use Rattle.lists.proofs.Choice.{by, clash, both-left, both-right}
 use Rattle.lists.proofs.Lists.{same-is, all-append}
-use Rattle.lists.proofs.Parts.{joined, joined-one, last}
+use Rattle.lists.proofs.Parts.{drop-part, drop-one, drop-end}
 use Rattle.words.specs.Bytes.{between, allowed, plain}
 use Rattle.words.specs.Words.{plainWord}
 use Rattle.words.proofs.Ranges.{between-low, between-high}
@@ -91,7 +91,7 @@ five-back : (w : List ℕ) → length w ≡ 5 → Read w (five w)
 unfolding goodLevelWord spellLevelWord
 five-back w n =
     picked w (same (part 0 2 w) (bytes "FL"))
-    (λ fl. spelled w (Flight (figuresOf (part 2 5 w))) (λ g. joined w 0 2 (omega arith) (same-is _ _ fl) (last w 2 5 n (in-range w 2 5 999 (omega arith) (omega arith) (omega arith) g))))
+    (λ fl. spelled w (Flight (figuresOf (part 2 5 w))) (λ g. drop-part w 0 2 (omega arith) (same-is _ _ fl) (drop-end w 2 5 n (in-range w 2 5 999 (omega arith) (omega arith) (omega arith) g))))
     (λ f. none w)
 
 module _ (w : List ℕ) (n : length w ≡ 9) where
@@ -99,18 +99,18 @@ module _ (w : List ℕ) (n : length w ≡ 9) where
   unfolding goodLevelWord spellLevelWord
   surface-back sfc =
       picked w (same (part 4 6 w) (bytes "FL"))
-      (λ fl. spelled w (SurfaceFlight (figuresOf (part 6 9 w))) (λ g. joined w 0 4 (omega arith) sfc (joined w 4 6 (omega arith) (same-is _ _ fl) (last w 6 9 n (in-range w 6 9 999 (omega arith) (omega arith) (omega arith) g)))))
+      (λ fl. spelled w (SurfaceFlight (figuresOf (part 6 9 w))) (λ g. drop-part w 0 4 (omega arith) sfc (drop-part w 4 6 (omega arith) (same-is _ _ fl) (drop-end w 6 9 n (in-range w 6 9 999 (omega arith) (omega arith) (omega arith) g)))))
       (λ f. picked w (eqb (getD w 8 0) (code "M"))
-      (λ m. spelled w (SurfaceMetres (figuresOf (part 4 8 w))) (λ g. joined w 0 4 (omega arith) sfc (joined w 4 8 (omega arith) (in-range w 4 8 9999 (omega arith) (omega arith) (omega arith) g) (joined-one w 8 0 (omega arith) (eqb-true _ _ m) (last w 9 9 n refl)))))
+      (λ m. spelled w (SurfaceMetres (figuresOf (part 4 8 w))) (λ g. drop-part w 0 4 (omega arith) sfc (drop-part w 4 8 (omega arith) (in-range w 4 8 9999 (omega arith) (omega arith) (omega arith) g) (drop-one w 8 0 (omega arith) (eqb-true _ _ m) (drop-end w 9 9 n refl)))))
       (λ f. none w))
 
   band-back : Read w (bandNine w)
   unfolding goodLevelWord spellLevelWord
   band-back =
       chosen w (same (part 0 2 w) (bytes "FL")) (eqb (getD w 5 0) (code "/"))
-      (λ fl s. spelled w (Band (figuresOf (part 2 5 w)) (figuresOf (part 6 9 w))) (λ g. joined w 0 2 (omega arith) (same-is _ _ fl)
-      (joined w 2 5 (omega arith) (in-range w 2 5 999 (omega arith) (omega arith) (omega arith) (band-low (figuresOf (part 2 5 w)) (figuresOf (part 6 9 w)) g))
-      (joined-one w 5 0 (omega arith) (eqb-true _ _ s) (last w 6 9 n (in-range w 6 9 999 (omega arith) (omega arith) (omega arith) (band-high (figuresOf (part 2 5 w)) (figuresOf (part 6 9 w)) g)))))))
+      (λ fl s. spelled w (Band (figuresOf (part 2 5 w)) (figuresOf (part 6 9 w))) (λ g. drop-part w 0 2 (omega arith) (same-is _ _ fl)
+      (drop-part w 2 5 (omega arith) (in-range w 2 5 999 (omega arith) (omega arith) (omega arith) (band-low (figuresOf (part 2 5 w)) (figuresOf (part 6 9 w)) g))
+      (drop-one w 5 0 (omega arith) (eqb-true _ _ s) (drop-end w 6 9 n (in-range w 6 9 999 (omega arith) (omega arith) (omega arith) (band-high (figuresOf (part 2 5 w)) (figuresOf (part 6 9 w)) g)))))))
 
   nine-back : Read w (nine w)
   nine-back = picked w (same (part 0 4 w) (bytes "SFC/")) (λ sfc. surface-back (same-is _ _ sfc)) (λ f. band-back)
@@ -123,8 +123,8 @@ feet-back w n =
     (λ g k. let few : length w - 2 - 4 ≡ feetFigures (figuresOf (part 4 (length w - 2) w)) = omega (arith, eqb-true (feetFigures (figuresOf (part 4 (length w - 2) w))) (length w - 6) k) in
     inr (
       g,
-      sym (joined w 0 4 (omega arith) (same-is _ _ sfc)
-          (joined w 4 (length w - 2) (omega arith) (in-range w 4 (length w - 2) 99999 (omega arith) (omega arith) (omega arith) g ∙ ap (λ (i : ℕ). inFigures i (figuresOf (part 4 (length w - 2) w))) few) (same-is _ _ ft))),
+      sym (drop-part w 0 4 (omega arith) (same-is _ _ sfc)
+          (drop-part w 4 (length w - 2) (omega arith) (in-range w 4 (length w - 2) 99999 (omega arith) (omega arith) (omega arith) g ∙ ap (λ (i : ℕ). inFigures i (figuresOf (part 4 (length w - 2) w))) few) (same-is _ _ ft))),
     )))
 
 back : (w : List ℕ) → Read w (levelOf w)

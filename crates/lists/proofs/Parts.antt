@@ -46,16 +46,16 @@ module _ {A : Type 0} where
 
   -- A list taken apart from the left. What stands from place a on: the part up to place e and what stands from there on, or one
   -- element and what stands after it, or the part up to the end.
-  pub joined : (xs : List A) (a e : ℕ) → a ≤ e → {x y : List A} → part a e xs ≡ x → drop e xs ≡ y → drop a xs ≡ x ++ y
-  joined xs a e h p q =
+  pub drop-part : (xs : List A) (a e : ℕ) → a ≤ e → {x y : List A} → part a e xs ≡ x → drop e xs ≡ y → drop a xs ≡ x ++ y
+  drop-part xs a e h p q =
       let there : a + (e - a) ≡ e = omega arith in
       sym (take-append-drop (e - a) (drop a xs)) ∙ rw (drop-drop (e - a) a xs, there, p, q)
 
-  pub joined-one : (xs : List A) (a : ℕ) (d : A) → a < length xs → {x : A} {y : List A} → getD xs a d ≡ x → drop (suc a) xs ≡ y → drop a xs ≡ x ∷ y
-  joined-one xs a d h p q = drop-cons xs a d h ∙ rw (p, q)
+  pub drop-one : (xs : List A) (a : ℕ) (d : A) → a < length xs → {x : A} {y : List A} → getD xs a d ≡ x → drop (suc a) xs ≡ y → drop a xs ≡ x ∷ y
+  drop-one xs a d h p q = drop-cons xs a d h ∙ rw (p, q)
 
-  pub last : (xs : List A) (a e : ℕ) → length xs ≡ e → {x : List A} → part a e xs ≡ x → drop a xs ≡ x
-  last xs a e n p = sym (part-rest xs a) ∙ rw (n, p)
+  pub drop-end : (xs : List A) (a e : ℕ) → length xs ≡ e → {x : List A} → part a e xs ≡ x → drop a xs ≡ x
+  drop-end xs a e n p = sym (part-rest xs a) ∙ rw (n, p)
 
 -- the word has n bytes, and x is the one at place i
 abbrev pub marked : ℕ → ℕ → ℕ → List ℕ → Bool
