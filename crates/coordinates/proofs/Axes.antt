@@ -3,7 +3,7 @@
 use mathlib.Core.Bool.{true}
 use mathlib.Core.List.{List, [], _∷_, _++_, append-nil}
 use mathlib.Core.Logic.{_⊎_, inl, inr}
-use mathlib.Core.Path.{_≡_, refl, sym, _∙_}
+use mathlib.Core.Path.{_≡_, refl, sym}
 use Prim.Native.Nat.{ℕ, _+_, _-_, _^_, _≤_, _<_}
 use native.Mathlib.Nat.{pow-le-pow-right, le-trans, lt-of-le-of-lt}
 use native.Mathlib.Numerals.{add-one}
@@ -13,13 +13,15 @@ use lib.ListN.{length, take, drop, take-append-drop, length-append, length-drop}
 use lib.Seq.{take-all, take-at, drop-at, length-take-le}
 use borrow.Author.Tests.{eq-eqb, ne-eqb, eqb-true, eqb-false}
 use Rattle.lists.specs.Lists.{part, allOf}
-use Rattle.lists.proofs.Choice.{by, both-true, pick-true, pick-false}
+use Rattle.lists.proofs.Choice.{by, pick-true}
 use Rattle.lists.proofs.Lists.{all-append}
 use Rattle.words.specs.Bytes.{letter, plain}
+use Rattle.words.specs.Words.{plainWord}
 use Rattle.figures.specs.Figures.{twoOf, threeOf, inFigures}
 use Rattle.figures.specs.Reads.{Reads, kept}
 use Rattle.figures.proofs.FigureLaws.{two-forth, two-back, three-forth, three-back, length-inFigures}
-use Rattle.figures.proofs.PlainLaws.{letter-plain, inFigures-plain}
+use Rattle.figures.proofs.Kept.{Back, kept-back}
+use Rattle.figures.proofs.PlainLaws.{letter-plain, inFigures-plain, plain-cons}
 use Rattle.coordinates.specs.Coordinates.{Axis, northSouth, eastWest, coordinateOf, spellCoordinate, goodCoordinate, noCoordinate}
 use Rattle.coordinates.specs.declared.Coordinate.{Coordinate}
 use Rattle.coordinates.proofs.Goodness.{good-told, none-bad}
@@ -64,15 +66,16 @@ module _ (a : Axis) where
         sides (inl e) = rw e p
         sides (inr e) = rw e m
 
-    pub spell-plain : allOf plain (spellCoordinate a c) ≡ true
-    unfolding allOf
+    pub spell-plain : plainWord (spellCoordinate a c) ≡ true
     spell-plain = by-form (good-told a c g .form)
       where
-        by-form : ((c .digits ≡ a .width) × (c .minutes ≡ 0)) ⊎ (c .digits ≡ a .width + 2) → allOf plain (spellCoordinate a c) ≡ true
-        by-form (inl (e, z)) = rw (spell-degrees c e) (both-true (letter-plain (c .letter) letter-good) (inFigures-plain (a .width) (c .degrees)))
+        by-form : ((c .digits ≡ a .width) × (c .minutes ≡ 0)) ⊎ (c .digits ≡ a .width + 2) → plainWord (spellCoordinate a c) ≡ true
+        by-form (inl (e, z)) = rw (spell-degrees c e) (plain-cons (c .letter) (inFigures (a .width) (c .degrees)) (letter-plain (c .letter) letter-good) (inFigures-plain (a .width) (c .degrees)))
         by-form (inr e) =
-            rw (spell-minutes c e, all-append plain (inFigures (a .width) (c .degrees)) (inFigures 2 (c .minutes)))
-            (both-true (letter-plain (c .letter) letter-good) (both-true (inFigures-plain (a .width) (c .degrees)) (inFigures-plain 2 (c .minutes))))
+            let d : List ℕ = inFigures (a .width) (c .degrees) in
+            let m : List ℕ = inFigures 2 (c .minutes) in
+            let all : allOf plain (d ++ m) ≡ true = rw (all-append plain d m, inFigures-plain (a .width) (c .degrees), inFigures-plain 2 (c .minutes)) in
+            rw (spell-minutes c e) (plain-cons (c .letter) (d ++ m) (letter-plain (c .letter) letter-good) all)
 
   pub spell-length : (c : Coordinate) → goodCoordinate a c ≡ true → length (spellCoordinate a c) ≡ c .digits + 1
   spell-length c g = by-form (good-told a c g .form)
@@ -84,13 +87,11 @@ module _ (a : Axis) where
           (omega (arith, length-append (inFigures (a .width) (c .degrees)) (inFigures 2 (c .minutes)), length-inFigures (a .width) (c .degrees), length-inFigures 2 (c .minutes)))
 
   -- the word is not recognised, or is the spelling of the good coordinate that it is read as
-  abbrev Back : List ℕ → Type 0
-  Back w = (coordinateOf a w ≡ noCoordinate) ⊎ ((goodCoordinate a (coordinateOf a w) ≡ true) × (spellCoordinate a (coordinateOf a w) ≡ w))
+  abbrev Settled : List ℕ → Type 0
+  Settled w = Back (spellCoordinate a) (goodCoordinate a) noCoordinate w (coordinateOf a w)
 
-  settled : (c : Coordinate) (w : List ℕ) → coordinateOf a w ≡ kept (goodCoordinate a) noCoordinate c → (goodCoordinate a c ≡ true → spellCoordinate a c ≡ w) → Back w
-  settled c w e s = by (goodCoordinate a c)
-      (λ g. let is : coordinateOf a w ≡ c = e ∙ pick-true c noCoordinate g in inr (rw is g, rw is (s g)))
-      (λ b. inl (e ∙ pick-false c noCoordinate b))
+  settled : (c : Coordinate) (w : List ℕ) → coordinateOf a w ≡ kept (goodCoordinate a) noCoordinate c → (goodCoordinate a c ≡ true → spellCoordinate a c ≡ w) → Settled w
+  settled c w e s = rw e (kept-back (spellCoordinate a) (goodCoordinate a) noCoordinate w c s)
 
   module _ (short : a .width ≤ 3) (room : a .greatest < 10 ^ a .width) where
     few : (n : ℕ) → n ≤ a .greatest → n < 1000
@@ -115,20 +116,20 @@ module _ (a : Axis) where
     figures-again : (ds : List ℕ) → length ds ≡ a .width → threeOf ds ≤ a .greatest → inFigures (a .width) (threeOf ds) ≡ ds
     figures-again ds long h = rw long at (three-back ds (few (threeOf ds) h))
 
-    back-degrees : (x : ℕ) (ds : List ℕ) → length ds ≡ a .width → Back (x ∷ ds)
+    back-degrees : (x : ℕ) (ds : List ℕ) → length ds ≡ a .width → Settled (x ∷ ds)
     back-degrees x ds long = settled c (x ∷ ds) (read-degrees x ds long) (λ g. rw (spell-degrees c refl, figures-again ds long (good-told a c g .degrees)))
       where
         c : Coordinate
         c = record { letter = x; digits = a .width; degrees = threeOf ds; minutes = 0 }
 
-    back-minutes : (x : ℕ) (ds ms : List ℕ) → length ds ≡ a .width → length ms ≡ 2 → Back (x ∷ (ds ++ ms))
+    back-minutes : (x : ℕ) (ds ms : List ℕ) → length ds ≡ a .width → length ms ≡ 2 → Settled (x ∷ (ds ++ ms))
     back-minutes x ds ms long two = settled c (x ∷ (ds ++ ms)) (read-minutes x ds long ms two)
         (λ g. rw (spell-minutes c refl, figures-again ds long (good-told a c g .degrees), two-back ms two (omega (arith, good-told a c g .minutes))))
       where
         c : Coordinate
         c = record { letter = x; digits = a .width + 2; degrees = threeOf ds; minutes = twoOf ms }
 
-    back : (w : List ℕ) → Back w
+    back : (w : List ℕ) → Settled w
     back [] = inl (sym (no-length a [] (λ e. absurd (omega arith)) (λ e. absurd (omega arith))))
     back (x ∷ xs) = by (eqb (length xs) (a .width))
         (λ e. back-degrees x xs (eqb-true (length xs) (a .width) e))
@@ -136,7 +137,7 @@ module _ (a : Axis) where
         (λ e. in-minutes (eqb-true (length xs) (a .width + 2) e))
         (λ m. inl (sym (no-length a (x ∷ xs) (λ e. eqb-false (length xs) (a .width) n (omega arith)) (λ e. eqb-false (length xs) (a .width + 2) m (omega arith))))))
       where
-        in-minutes : length xs ≡ a .width + 2 → Back (x ∷ xs)
+        in-minutes : length xs ≡ a .width + 2 → Settled (x ∷ xs)
         in-minutes e = rw (take-append-drop (a .width) xs) at
             (back-minutes x (take (a .width) xs) (drop (a .width) xs) (length-take-le (a .width) xs (omega arith)) (omega (arith, length-drop (a .width) xs)))
 
@@ -150,8 +151,8 @@ pub longitude-reads : Reads (coordinateOf eastWest) (spellCoordinate eastWest) (
 longitude-reads = coordinate-reads eastWest (lit≤ tt) (lit< tt) (lit< tt) (lit< tt)
 
 -- the words of good latitudes and longitudes
-pub latitude-plain : (c : Coordinate) → goodCoordinate northSouth c ≡ true → allOf plain (spellCoordinate northSouth c) ≡ true
+pub latitude-plain : (c : Coordinate) → goodCoordinate northSouth c ≡ true → plainWord (spellCoordinate northSouth c) ≡ true
 latitude-plain = spell-plain northSouth refl refl
 
-pub longitude-plain : (c : Coordinate) → goodCoordinate eastWest c ≡ true → allOf plain (spellCoordinate eastWest c) ≡ true
+pub longitude-plain : (c : Coordinate) → goodCoordinate eastWest c ≡ true → plainWord (spellCoordinate eastWest c) ≡ true
 longitude-plain = spell-plain eastWest refl refl

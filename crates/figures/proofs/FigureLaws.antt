@@ -10,21 +10,22 @@ use lib.Dec.{leb, ltb, lit<}
 use lib.ListN.{length, length-map}
 use borrow.Author.Tests.{leb-true, le-leb, lt-ltb, le-ltb, ltb-true}
 use Rattle.lists.specs.Choice.{pick, both}
-use Rattle.lists.specs.Lists.{allOf}
+use Rattle.lists.specs.Lists.{allOf, part}
 use Rattle.lists.specs.Base.{worth, places}
 use Rattle.lists.proofs.Choice.{both-left, both-right, both-true, pick-true}
-use Rattle.lists.proofs.Lists.{all-map, all-weaken}
+use Rattle.lists.proofs.Lists.{all-map, all-weaken, length-part}
 use Rattle.lists.proofs.Base.{worth-places, places-worth, worth-lt, length-places, places-small}
 use Rattle.words.specs.Bytes.{digit}
+use Rattle.words.proofs.Ranges.{between-low, between-high}
 use Rattle.figures.specs.Figures.{figure, asFigure, figuresOf, inFigures, capped, twoOf, threeOf}
 
 -- One figure.
 
 pub digit-low : (x : ℕ) → digit x ≡ true → 48 ≤ x
-digit-low x e = leb-true 48 x (both-left (leb 48 x) (leb x 57) e)
+digit-low x e = between-low 48 57 x e
 
 pub figure-small : (x : ℕ) → digit x ≡ true → figure x < 10
-figure-small x e = omega (arith, leb-true x 57 (both-right (leb 48 x) (leb x 57) e))
+figure-small x e = omega (arith, between-high 48 57 x e)
 
 as-figure-digit : (d : ℕ) → ltb d 10 ≡ true → digit (asFigure d) ≡ true
 as-figure-digit d e = both-true (le-leb 48 (d + 48) (omega arith)) (le-leb (d + 48) 57 (omega (arith, ltb-true d 10 e)))
@@ -85,6 +86,10 @@ pub figures-back : (w : List ℕ) → figuresOf w < 100000 → inFigures (length
 figures-back w h =
     let small : allOf (λ (d : ℕ). ltb d 10) (map figure w) ≡ true = digits-small w (figures-digits w h) in
     rw (figures-worth w h, ← length-map w figure, places-worth 10 (map figure w) small) (map-back w (figures-digits w h))
+
+-- a part that counts as figures is those figures
+pub figures-part : (w : List ℕ) (a e : ℕ) → a ≤ e → e ≤ length w → figuresOf (part a e w) < 100000 → part a e w ≡ inFigures (e - a) (figuresOf (part a e w))
+figures-part w a e h k l = sym (rw (length-part a e w h k) at (figures-back (part a e w) l))
 
 pub figures-lt : (w : List ℕ) → figuresOf w < 100000 → figuresOf w < 10 ^ length w
 figures-lt w h = rw (figures-worth w h, ← length-map w figure) (worth-lt 10 (map figure w) (digits-small w (figures-digits w h)))

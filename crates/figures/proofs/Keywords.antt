@@ -2,7 +2,7 @@
 -- Assumes nothing.
 use mathlib.Core.Bool.{true, false, not}
 use mathlib.Core.List.{List, [], _∷_, map}
-use mathlib.Core.Logic.{_⊎_, inl, inr}
+use mathlib.Core.Logic.{inl, inr}
 use mathlib.Core.Path.{_≡_, refl, ap, sym, _∙_}
 use Prim.Native.Nat.{ℕ, zero, suc, _+_, _*_, _^_, _≤_, _<_}
 use native.Mathlib.Nat.{pow-zero, pow-succ', mul-assoc, mul-le-mul-right, mul-one, one-mul, le-trans, one-le-pow, pow-le-pow-right, not-suc-le-zero, le-of-suc-le-suc, le-refl}
@@ -17,6 +17,7 @@ use Rattle.lists.proofs.Lists.{index-found, index-within, all-at, same-refl, sa
 use Rattle.lists.proofs.Base.{places-worth, worth-lt}
 use Rattle.figures.specs.Reads.{Reads}
 use Rattle.figures.specs.Keywords.{byte, short, codeOf, wordIn, wordOf, inTable, distinct}
+use Rattle.figures.proofs.Kept.{Back}
 
 -- a number keeps its weight when places follow it
 worth-ge : (b n : ℕ) (ds : List ℕ) → n * b ^ length ds ≤ worthAfter b n ds
@@ -97,7 +98,7 @@ table-forth (k ∷ ks) t (suc n) h =
     let other : same (getD ks n []) k ≡ false = not-true (same (getD ks n []) k) (all-at (λ (x : List ℕ). not (same x k)) ks [] apart n (le-of-suc-le-suc h)) in
     rw other (ap suc (table-forth ks (both-right (allOf (λ (x : List ℕ). not (same x k)) ks) (distinct ks) t) n (le-of-suc-le-suc h)))
 
-table-back : (table : List (List ℕ)) (w : List ℕ) → (wordIn table w ≡ length table) ⊎ ((inTable table (wordIn table w) ≡ true) × (wordOf table (wordIn table w) ≡ w))
+table-back : (table : List (List ℕ)) (w : List ℕ) → Back (wordOf table) (inTable table) (length table) w (wordIn table w)
 table-back table w =
     by (inTable table (wordIn table w))
     (λ e. inr (e, sym (same-is w (wordOf table (wordIn table w)) (index-found (same w) table [] (ltb-true (wordIn table w) (length table) e)))))

@@ -2,13 +2,13 @@
 -- Assumes nothing.
 use mathlib.Core.Bool.{Bool, true, false}
 use mathlib.Core.List.{List, [], _∷_}
-use mathlib.Core.Logic.{_⊎_, inl, inr}
+use mathlib.Core.Logic.{inl, inr}
 use mathlib.Core.Path.{_≡_, refl, sym}
 use Prim.Native.Nat.{ℕ, zero, suc, _^_, _≤_, _<_}
 use native.Mathlib.Omega.{arith}
 use lib.Dec.{leb, ltb, eqb, lit<}
 use lib.ListN.{length}
-use borrow.Author.Tests.{leb-true, le-leb, eq-eqb, eqb-true, lt-ltb, ltb-true}
+use borrow.Author.Tests.{le-leb, eq-eqb, eqb-true, lt-ltb, ltb-true}
 use Rattle.lists.specs.Choice.{both}
 use Rattle.lists.specs.Lists.{allOf}
 use Rattle.lists.specs.Base.{worth, places}
@@ -16,11 +16,13 @@ use Rattle.lists.proofs.Choice.{by, both-left, both-right, both-false-right, pi
 use Rattle.lists.proofs.Lists.{all-append, all-weaken}
 use Rattle.lists.proofs.Base.{worth-places, places-worth, worth-lt, length-places}
 use Rattle.words.specs.Bytes.{letter}
+use Rattle.words.proofs.Ranges.{between-high}
 use Rattle.figures.specs.Reads.{Reads}
 use Rattle.figures.specs.Letters.{lettersOf, inLetters, goodLetters}
+use Rattle.figures.proofs.Kept.{Back}
 
 pub letter-small : (x : ℕ) → letter x ≡ true → x < 256
-letter-small x e = omega (arith, leb-true x 90 (both-right (leb 65 x) (leb x 90) e))
+letter-small x e = omega (arith, between-high 65 90 x e)
 
 -- the ways out of the loop that reads letters
 pub letters-barred : (k : ℕ) (w : List ℕ) → allOf letter w ≡ false → 0 ≡ lettersOf k w
@@ -58,14 +60,14 @@ letters-forth : (k : ℕ) → k ≤ 4 → (n : ℕ) → goodLetters k n ≡ true
 letters-forth k h n g =
     sym (letters-told k (inLetters k n) h (length-inLetters k n) (inLetters-letters k n g) (sym (worth-places 256 (lit< tt) k n (good-lt k n g))))
 
-letters-back : (k : ℕ) (w : List ℕ) → (lettersOf k w ≡ 0) ⊎ ((goodLetters k (lettersOf k w) ≡ true) × (inLetters k (lettersOf k w) ≡ w))
+letters-back : (k : ℕ) (w : List ℕ) → Back (inLetters k) (goodLetters k) 0 w (lettersOf k w)
 unfolding lettersOf
 letters-back k w = by test yes (λ e. inl (pick-false (worth 256 w) 0 e))
   where
     test : Bool
     test = both (leb k 4) (both (eqb (length w) k) (allOf letter w))
 
-    yes : test ≡ true → (lettersOf k w ≡ 0) ⊎ ((goodLetters k (lettersOf k w) ≡ true) × (inLetters k (lettersOf k w) ≡ w))
+    yes : test ≡ true → Back (inLetters k) (goodLetters k) 0 w (lettersOf k w)
     yes e =
         let is : lettersOf k w ≡ worth 256 w = pick-true (worth 256 w) 0 e in
         let rest : both (eqb (length w) k) (allOf letter w) ≡ true = both-right (leb k 4) (both (eqb (length w) k) (allOf letter w)) e in

@@ -1,7 +1,9 @@
 pub mod Reading
 pub mod FigureLaws
+pub mod Kept
 pub mod LetterLaws
 pub mod Keywords
 pub mod Determined
+pub mod Codes
 pub mod TableLaws
 pub mod PlainLaws

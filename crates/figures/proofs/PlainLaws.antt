@@ -1,17 +1,21 @@
--- Figures and letters are bytes that a word may have: allowed, no blank and no `=`.
+-- Plain bytes, those that a word may have: allowed, no blank and no `=`. Figures and letters are; and a word of them is a run without blanks.
 -- Assumes nothing.
 use mathlib.Core.Bool.{true, false, not}
-use mathlib.Core.List.{List}
-use mathlib.Core.Path.{_≡_, refl, ap}
-use Prim.Native.Nat.{ℕ, _≤_, _<_}
+use mathlib.Core.List.{List, _∷_}
+use mathlib.Core.Path.{_≡_}
+use Prim.Native.Nat.{ℕ, _≤_, _<_, zero-le, suc-le-suc}
 use native.Mathlib.Omega.{arith}
-use lib.Dec.{leb, eqb}
-use borrow.Author.Tests.{leb-true, ne-eqb}
+use lib.Dec.{eqb}
+use lib.ListN.{length}
+use borrow.Author.Tests.{ne-eqb}
 use Rattle.lists.specs.Choice.{both, either}
 use Rattle.lists.specs.Lists.{allOf}
 use Rattle.lists.proofs.Choice.{both-left, both-right, both-true, either-left, either-right}
 use Rattle.lists.proofs.Lists.{all-weaken}
 use Rattle.words.specs.Bytes.{letter, digit, blank, solid, stroke, bracket, equals, allowed, plain}
+use Rattle.words.specs.Words.{solidWord, plainWord}
+use Rattle.words.proofs.Ranges.{between-low, between-high}
+use Rattle.words.proofs.Words.{run-of, run-some, run-all}
 use Rattle.figures.specs.Figures.{inFigures}
 use Rattle.figures.specs.Letters.{inLetters, goodLetters}
 use Rattle.figures.proofs.FigureLaws.{inFigures-digits}
@@ -29,14 +33,14 @@ plain-above x a h e =
 pub digit-plain : (x : ℕ) → digit x ≡ true → plain x ≡ true
 unfolding allowed
 digit-plain x d =
-    let low : 48 ≤ x = leb-true 48 x (both-left (leb 48 x) (leb x 57) d) in
-    let high : x ≤ 57 = leb-true x 57 (both-right (leb 48 x) (leb x 57) d) in
+    let low : 48 ≤ x = between-low 48 57 x d in
+    let high : x ≤ 57 = between-high 48 57 x d in
     plain-above x (either-right (letter x) (either-left (either (blank x) (either (stroke x) (either (bracket x) (equals x)))) d)) (omega arith) (λ q. omega arith)
 
 pub letter-plain : (x : ℕ) → letter x ≡ true → plain x ≡ true
 unfolding allowed
 letter-plain x l =
-    let low : 65 ≤ x = leb-true 65 x (both-left (leb 65 x) (leb x 90) l) in
+    let low : 65 ≤ x = between-low 65 90 x l in
     plain-above x (either-left (either (digit x) (either (blank x) (either (stroke x) (either (bracket x) (equals x))))) l) (omega arith) (λ q. omega arith)
 
 pub digits-plain : (w : List ℕ) → allOf digit w ≡ true → allOf plain w ≡ true
@@ -50,3 +54,19 @@ inFigures-plain k n = digits-plain (inFigures k n) (inFigures-digits k n)
 
 pub inLetters-plain : (k n : ℕ) → goodLetters k n ≡ true → allOf plain (inLetters k n) ≡ true
 inLetters-plain k n g = letters-plain (inLetters k n) (inLetters-letters k n g)
+
+pub byte-solid : (x : ℕ) → plain x ≡ true → solid x ≡ true
+byte-solid x e = both-left (solid x) (not (equals x)) (both-right (allowed x) (both (solid x) (not (equals x))) e)
+
+-- A word that is not empty and has only plain bytes.
+
+pub run-plain : (w : List ℕ) → 0 < length w → allOf plain w ≡ true → plainWord w ≡ true
+run-plain = run-of plain
+
+-- one plain byte, and plain bytes after it
+pub plain-cons : (x : ℕ) (w : List ℕ) → plain x ≡ true → allOf plain w ≡ true → plainWord (x ∷ w) ≡ true
+unfolding allOf
+plain-cons x w p t = run-plain (x ∷ w) (suc-le-suc zero-le) (both-true p t)
+
+pub plain-solid : (w : List ℕ) → plainWord w ≡ true → solidWord w ≡ true
+plain-solid w t = run-of solid w (run-some plain w t) (all-weaken plain solid byte-solid w (run-all plain w t))

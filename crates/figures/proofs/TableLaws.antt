@@ -1,22 +1,23 @@
 -- Tables of fixed words that a record keeps as a number: a code tells the number, and number and word undo one another.
 -- Assumes nothing.
-use mathlib.Core.Bool.{true, false, not}
-use mathlib.Core.List.{List, [], _∷_, map}
-use mathlib.Core.Logic.{_⊎_, inl, inr, ⊎-elim}
+use mathlib.Core.Bool.{Bool, true, false, not}
+use mathlib.Core.List.{List, [], _∷_}
+use mathlib.Core.Logic.{inl, inr}
 use mathlib.Core.Path.{_≡_, refl, ap, sym, _∙_}
-use Prim.Native.Nat.{ℕ, zero, suc, _+_, _-_, _≤_, _<_}
-use native.Mathlib.Nat.{not-suc-le-zero, le-of-suc-le-suc, add-sub-cancel-left}
+use Prim.Native.Nat.{ℕ, _+_, _-_, _≤_, _<_}
+use native.Mathlib.Nat.{add-sub-cancel-left}
 use native.Mathlib.Omega.{arith}
 use lib.Dec.{leb, ltb, eqb}
-use lib.ListN.{length, getD}
-use borrow.Author.Tests.{leb-true, ltb-true, ltb-false, lt-ltb, le-ltb, le-leb, lt-leb}
-use Rattle.lists.specs.Choice.{pick, both}
-use Rattle.lists.specs.Lists.{allOf, indexOf, same}
+use lib.ListN.{length}
+use borrow.Author.Tests.{ltb-true, lt-ltb, le-ltb, le-leb, lt-leb}
+use Rattle.lists.specs.Lists.{allOf, same}
 use Rattle.lists.proofs.Choice.{by, both-left, both-right, both-true, both-false-left, pick-true, pick-false}
 use Rattle.lists.proofs.Lists.{all-at, index-none, index-found, same-is}
+use Rattle.words.proofs.Ranges.{between-low, between-high}
 use Rattle.figures.specs.Reads.{Reads}
 use Rattle.figures.specs.Keywords.{short, codeOf, wordIn, wordOf, inTable, distinct}
 use Rattle.figures.specs.Tables.{numberIn, numbered, inNumbers}
+use Rattle.figures.proofs.Kept.{Back}
 use Rattle.figures.proofs.Keywords.{same-code, code-tells, table-reads}
 
 -- a word with the code of the table's word k has number first + k
@@ -42,17 +43,24 @@ number-none first table w s t =
     let past : wordIn table w ≡ length table = index-none (same w) table (same-none table w s t) in
     sym (pick-false (first + wordIn table w) 0 (le-ltb (wordIn table w) (length table) (omega arith)))
 
+-- what holds of every word of a table holds of the word of a number
+pub numbered-all : (f : List ℕ → Bool) (first : ℕ) (table : List (List ℕ)) → 0 < length table → allOf f table ≡ true → (n : ℕ) → inNumbers first table n ≡ true → f (numbered first table n) ≡ true
+numbered-all f first table some t n g =
+    let low : first ≤ n = between-low first (first + length table - 1) n g in
+    let high : n ≤ first + length table - 1 = between-high first (first + length table - 1) n g in
+    rw (le-ltb n first low) (all-at f table [] t (n - first) (omega arith))
+
 module _ (first : ℕ) (table : List (List ℕ)) (pos : 0 < first) (some : 0 < length table) (d : distinct table ≡ true) where
   number-forth : (n : ℕ) → inNumbers first table n ≡ true → numberIn first table (numbered first table n) ≡ n
   number-forth n g =
-      let low : first ≤ n = leb-true first n (both-left (leb first n) (leb n (first + length table - 1)) g) in
-      let high : n ≤ first + length table - 1 = leb-true n (first + length table - 1) (both-right (leb first n) (leb n (first + length table - 1)) g) in
+      let low : first ≤ n = between-low first (first + length table - 1) n g in
+      let high : n ≤ first + length table - 1 = between-high first (first + length table - 1) n g in
       let within : n - first < length table = omega arith in
       let word : numbered first table n ≡ wordOf table (n - first) = pick-false [] (wordOf table (n - first)) (le-ltb n first low) in
       let back : wordIn table (wordOf table (n - first)) ≡ n - first = table-reads table d .forth (n - first) (lt-ltb (n - first) (length table) within) in
       rw (word, back, lt-ltb (n - first) (length table) within) (omega arith)
 
-  number-back : (w : List ℕ) → (numberIn first table w ≡ 0) ⊎ ((inNumbers first table (numberIn first table w) ≡ true) × (numbered first table (numberIn first table w) ≡ w))
+  number-back : (w : List ℕ) → Back (numbered first table) (inNumbers first table) 0 w (numberIn first table w)
   number-back w =
       by (inTable table (wordIn table w))
       (λ e. inr (found e))

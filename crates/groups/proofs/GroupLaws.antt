@@ -1,30 +1,31 @@
 -- Groups, periods and times: word and value undo one another, and what is spelled holds neither a blank nor `=`.
 -- Assumes nothing.
-use mathlib.Core.Bool.{Bool, true, not}
+use mathlib.Core.Bool.{Bool, true}
 use mathlib.Core.List.{List, _∷_, _++_}
 use mathlib.Core.Path.{_≡_, refl, _∙_}
 use Prim.Native.Nat.{ℕ, _+_, _≤_, _<_}
 use Prim.Native.Char.{code}
 use native.Mathlib.Omega.{arith}
-use lib.Dec.{leb, ltb, eqb}
+use lib.Dec.{leb, eqb}
 use lib.ListN.{length, length-append}
-use borrow.Author.Tests.{leb-true, eqb-true, eq-eqb, ne-eqb, lt-leb, lt-ltb}
-use Rattle.lists.specs.Choice.{both}
+use borrow.Author.Tests.{leb-true, eqb-true, eq-eqb}
 use Rattle.lists.specs.Lists.{allOf, part}
 use Rattle.lists.specs.Text.{bytes}
-use Rattle.lists.proofs.Choice.{both-left, both-right, both-true}
-use Rattle.lists.proofs.Lists.{all-append, all-weaken, length-part}
-use Rattle.words.specs.Bytes.{between, digit, solid, equals, allowed}
-use Rattle.words.specs.Words.{runOf, solidWord}
+use Rattle.lists.proofs.Choice.{both-left, both-right}
+use Rattle.lists.proofs.Lists.{all-append, length-part}
+use Rattle.lists.proofs.Parts.{part-whole, part-here, part-past, at-past, part-join, part-cons, marked, marked-true, marked-long, marked-at}
+use Rattle.words.specs.Bytes.{between, allowed, plain}
+use Rattle.words.specs.Words.{plainWord}
+use Rattle.words.proofs.Ranges.{between-high}
 use Rattle.figures.specs.Figures.{inFigures, twoOf}
 use Rattle.figures.specs.Reads.{Reads}
-use Rattle.figures.proofs.FigureLaws.{digit-low, length-inFigures, inFigures-digits, two-forth, two-back}
+use Rattle.figures.proofs.FigureLaws.{length-inFigures, two-forth, two-back}
+use Rattle.figures.proofs.Kept.{kept-reads, reads-spelled}
+use Rattle.figures.proofs.PlainLaws.{inFigures-plain, run-plain}
 use Rattle.groups.specs.Groups.{onClock, goodGroup, noGroup, groupOf, spellGroup, goodPeriod, noPeriod, periodOf, spellPeriod, goodTime, noTime, timeOf, spellTime}
 use Rattle.groups.specs.declared.Group.{Group}
 use Rattle.groups.specs.declared.Period.{Period}
 use Rattle.groups.specs.declared.Time.{Time}
-use Rattle.groups.proofs.Parts.{part-whole, part-here, part-past, at-past, part-join, part-cons, marked, marked-true, marked-long, marked-at}
-use Rattle.groups.proofs.Kept.{kept-reads, reads-spelled}
 
 -- Values made of equal parts.
 
@@ -59,7 +60,7 @@ clock-minute h m g = omega (arith, leb-true m 59 (both-right (leb h 23) (leb m 5
 module _ (g : Group) (t : goodGroup g ≡ true) where
   good-day : g .day < 100
   unfolding goodGroup
-  good-day = omega (arith, leb-true (g .day) 31 (both-right (leb 1 (g .day)) (leb (g .day) 31) (both-left (between 1 31 (g .day)) (onClock (g .hour) (g .minute)) t)))
+  good-day = omega (arith, between-high 1 31 (g .day) (both-left (between 1 31 (g .day)) (onClock (g .hour) (g .minute)) t))
 
   good-clock : onClock (g .hour) (g .minute) ≡ true
   unfolding goodGroup
@@ -203,45 +204,24 @@ pub time-reads : Reads timeOf spellTime goodTime noTime
 unfolding timeOf goodTime
 time-reads = kept-reads timeTest timeValue spellTime goodTime noTime time-passes time-gives time-spelled refl
 
--- What is spelled: bytes that are allowed, no blank and no `=`.
-
-abbrev pub plain : ℕ → Bool
-plain x = both (allowed x) (both (solid x) (not (equals x)))
-
-abbrev pub plainWord : List ℕ → Bool
-plainWord w = runOf plain w
-
-pub plain-solid : (w : List ℕ) → plainWord w ≡ true → solidWord w ≡ true
-plain-solid w t =
-    both-true (both-left (ltb 0 (length w)) (allOf plain w) t)
-    (all-weaken plain solid (λ x e. both-left (solid x) (not (equals x)) (both-right (allowed x) (both (solid x) (not (equals x))) e)) w (both-right (ltb 0 (length w)) (allOf plain w) t))
-
-plain-digit : (x : ℕ) → digit x ≡ true → plain x ≡ true
-unfolding allowed
-plain-digit x t =
-    let low : 48 ≤ x = digit-low x t in
-    let high : x ≤ 57 = leb-true x 57 (both-right (leb 48 x) (leb x 57) t) in
-    rw (lt-leb 65 x (omega arith), t, ne-eqb x 32 (omega arith), ne-eqb x 13 (omega arith), ne-eqb x 10 (omega arith), ne-eqb x 61 (omega arith))
-
-pub plain-figures : (k n : ℕ) → allOf plain (inFigures k n) ≡ true
-plain-figures k n = all-weaken digit plain plain-digit (inFigures k n) (inFigures-digits k n)
+-- What is spelled is a word of plain bytes.
 
 group-bytes : (g : Group) → allOf plain (spellGroup g) ≡ true
 unfolding spellGroup
 group-bytes g =
-    rw (all-append plain (inFigures 2 (g .day)), all-append plain (inFigures 2 (g .hour)), plain-figures 2 (g .day), plain-figures 2 (g .hour), plain-figures 2 (g .minute))
+    rw (all-append plain (inFigures 2 (g .day)), all-append plain (inFigures 2 (g .hour)), inFigures-plain 2 (g .day), inFigures-plain 2 (g .hour), inFigures-plain 2 (g .minute))
 
 pub group-plain : (g : Group) → plainWord (spellGroup g) ≡ true
-group-plain g = both-true (lt-ltb 0 (length (spellGroup g)) (omega (arith, length-group g))) (group-bytes g)
+group-plain g = run-plain (spellGroup g) (omega (arith, length-group g)) (group-bytes g)
 
 pub period-plain : (p : Period) → plainWord (spellPeriod p) ≡ true
 unfolding spellPeriod allOf allowed
 period-plain p =
-    both-true (lt-ltb 0 (length (spellPeriod p)) (omega (arith, length-period p)))
+    run-plain (spellPeriod p) (omega (arith, length-period p))
     (rw (all-append plain (spellGroup (p .from)), group-bytes (p .from)) (group-bytes (p .to)))
 
 pub time-plain : (t : Time) → plainWord (spellTime t) ≡ true
 unfolding spellTime allOf allowed
 time-plain t =
-    both-true (lt-ltb 0 (length (spellTime t)) (omega (arith, length-time t)))
-    (rw (all-append plain (inFigures 2 (t .hour)), all-append plain (inFigures 2 (t .minute)), plain-figures 2 (t .hour), plain-figures 2 (t .minute)))
+    run-plain (spellTime t) (omega (arith, length-time t))
+    (rw (all-append plain (inFigures 2 (t .hour)), all-append plain (inFigures 2 (t .minute)), inFigures-plain 2 (t .hour), inFigures-plain 2 (t .minute)))

@@ -1,4 +1,2 @@
-pub mod Parts
-pub mod Kept
 pub mod GroupLaws
 pub mod Determined

@@ -1,42 +1,39 @@
 -- The words of the heading and the office: each reader and its spelling undo one another, and each spelling is a word.
 -- Assumes nothing.
-use mathlib.Core.Bool.{Bool, true, false}
-use mathlib.Core.List.{List, [], _++_}
-use mathlib.Core.Logic.{_⊎_, inl, inr}
+use mathlib.Core.Bool.{Bool, true}
+use mathlib.Core.List.{List, _++_}
+use mathlib.Core.Logic.{inl, inr}
 use mathlib.Core.Path.{_≡_, refl}
 use Prim.Native.Char.{code}
 use Prim.Native.Nat.{ℕ, _+_, _-_, _/_, _%_, _^_, _≤_, _<_}
 use native.Mathlib.Omega.{arith}
 use lib.Dec.{leb, ltb, eqb, lit<}
 use lib.ListN.{length, getD, length-append}
-use borrow.Author.Tests.{leb-true, le-leb, eqb-true, eq-eqb, ne-eqb, lt-ltb, le-ltb}
+use borrow.Author.Tests.{leb-true, le-leb, eqb-true, eq-eqb, ne-eqb, lt-ltb}
 use Rattle.lists.specs.Choice.{both}
 use Rattle.lists.specs.Lists.{allOf, same, part}
 use Rattle.lists.specs.Base.{places}
 use Rattle.lists.specs.Text.{bytes}
-use Rattle.lists.proofs.Choice.{by, both-left, both-right, both-true}
-use Rattle.lists.proofs.Lists.{all-at, all-append, length-part}
+use Rattle.lists.proofs.Choice.{by, both-unit, both-left, both-right, both-true}
+use Rattle.lists.proofs.Lists.{all-append, length-part}
+use Rattle.lists.proofs.Parts.{part-whole, part-here, part-past, at-past, part-join, part-cons, marked, marked-long, marked-at}
 use Rattle.words.specs.Bytes.{letter, allowed, plain}
-use Rattle.words.specs.Words.{runOf}
+use Rattle.words.specs.Words.{plainWord}
+use Rattle.words.proofs.Ranges.{between-high}
 use Rattle.figures.specs.Figures.{twoOf, inFigures}
 use Rattle.figures.specs.Letters.{lettersOf, inLetters, goodLetters}
 use Rattle.figures.specs.Keywords.{short, codeOf, distinct, wordOf}
 use Rattle.figures.specs.Reads.{Reads}
-use Rattle.figures.specs.Tables.{numbered, inNumbers}
+use Rattle.figures.specs.Tables.{numbered}
 use Rattle.figures.proofs.FigureLaws.{length-inFigures, two-forth, two-back}
+use Rattle.figures.proofs.Kept.{Back, kept-reads, reads-spelled}
 use Rattle.figures.proofs.LetterLaws.{length-inLetters, letters-reads}
-use Rattle.figures.proofs.PlainLaws.{letter-plain, inFigures-plain, inLetters-plain}
-use Rattle.figures.proofs.TableLaws.{number-at, number-none, numbers-reads}
+use Rattle.figures.proofs.PlainLaws.{letter-plain, inFigures-plain, inLetters-plain, run-plain}
+use Rattle.figures.proofs.TableLaws.{number-at, number-none, numbered-all, numbers-reads}
 use Rattle.headings.specs.Headings.{typeWords, typeOf, goodType, goodDesignator, noDesignator, designatorOf, spellDesignator, goodCorrection, correctionOf, spellCorrection, officeOf, spellOffice}
 use Rattle.headings.specs.declared.Designator.{Designator}
-use Rattle.headings.proofs.Kept.{kept-reads, reads-spelled}
-use Rattle.headings.proofs.Parts.{part-whole, part-here, part-past, at-past, part-join, part-cons}
 
 -- The tests of letters, place by place.
-
-both-unit : (b : Bool) → both b true ≡ b
-both-unit true = refl
-both-unit false = refl
 
 pub two-good : (n : ℕ) → both (ltb n 65536) (both (letter (n / 256 % 256)) (letter (n % 256))) ≡ goodLetters 2 n
 unfolding goodLetters places allOf
@@ -45,10 +42,6 @@ two-good n = rw (both-unit (letter (n % 256)))
 pub four-good : (n : ℕ) → n < 256 ^ 4 → both (letter (n / 256 / 256 / 256 % 256)) (both (letter (n / 256 / 256 % 256)) (both (letter (n / 256 % 256)) (letter (n % 256)))) ≡ goodLetters 4 n
 unfolding goodLetters places allOf
 four-good n h = rw (both-unit (letter (n % 256)), lt-ltb n (256 ^ 4) h)
-
--- a word that is not empty and has only plain bytes
-pub run-plain : (w : List ℕ) → 0 < length w → allOf plain w ≡ true → runOf plain w ≡ true
-run-plain w h t = both-true (lt-ltb 0 (length w) h) t
 
 -- The type.
 
@@ -70,13 +63,6 @@ type-none w p q = number-none 2 typeWords w types-short (rw (ne-eqb (codeOf w) (
 pub type-reads : Reads typeOf (numbered 2 typeWords) goodType 0
 unfolding typeWords
 type-reads = numbers-reads 2 typeWords (lit< tt) (lit< tt) types-distinct
-
--- what holds of every word of a table holds of the word of a number
-numbered-all : (f : List ℕ → Bool) (first : ℕ) (table : List (List ℕ)) → 0 < length table → allOf f table ≡ true → (n : ℕ) → inNumbers first table n ≡ true → f (numbered first table n) ≡ true
-numbered-all f first table some t n g =
-    let low : first ≤ n = leb-true first n (both-left (leb first n) (leb n (first + length table - 1)) g) in
-    let high : n ≤ first + length table - 1 = leb-true n (first + length table - 1) (both-right (leb first n) (leb n (first + length table - 1)) g) in
-    rw (le-ltb n first low) (all-at f table [] t (n - first) (omega arith))
 
 length-type : (n : ℕ) → goodType n ≡ true → length (numbered 2 typeWords n) ≡ 2
 unfolding typeWords allOf
@@ -153,7 +139,7 @@ designator-reads =
     designator-spelled
     refl
 
-pub designator-plain : (d : Designator) → goodDesignator d ≡ true → runOf plain (spellDesignator d) ≡ true
+pub designator-plain : (d : Designator) → goodDesignator d ≡ true → plainWord (spellDesignator d) ≡ true
 unfolding spellDesignator
 designator-plain d t =
     run-plain (spellDesignator d) (omega (arith, length-designator d t))
@@ -196,17 +182,17 @@ correction-reads =
 correction-letter : (c : ℕ) → goodCorrection c ≡ true → letter c ≡ true
 unfolding goodCorrection
 correction-letter c g =
-    let high : c ≤ 88 = leb-true c 88 (both-right (leb 65 c) (leb c 88) g) in
+    let high : c ≤ 88 = between-high 65 88 c g in
     both-true (both-left (leb 65 c) (leb c 88) g) (le-leb c 90 (omega arith))
 
-pub correction-plain : (c : ℕ) → goodCorrection c ≡ true → runOf plain (spellCorrection c) ≡ true
+pub correction-plain : (c : ℕ) → goodCorrection c ≡ true → plainWord (spellCorrection c) ≡ true
 unfolding allOf allowed
 correction-plain c g = rw (letter-plain c (correction-letter c g))
 
 -- The office.
 
 abbrev officeTest : List ℕ → Bool
-officeTest w = both (eqb (length w) 5) (eqb (getD w 4 0) (code "-"))
+officeTest w = marked 5 4 (code "-") w
 
 four-letters-reads : Reads (lettersOf 4) (inLetters 4) (goodLetters 4) 0
 four-letters-reads = letters-reads 4 (lit< tt) (lit< tt)
@@ -226,25 +212,25 @@ office-forth o g =
 
 office-joined : (w : List ℕ) → officeTest w ≡ true → part 0 4 w ++ bytes "-" ≡ w
 office-joined w t =
-    let l : length w ≡ 5 = eqb-true (length w) 5 (both-left (eqb (length w) 5) (eqb (getD w 4 0) 45) t) in
+    let l : length w ≡ 5 = marked-long 5 4 (code "-") w t in
     rw (
-      part-cons w 4 5 0 45 (omega arith) (omega arith) (eqb-true (getD w 4 0) 45 (both-right (eqb (length w) 5) (eqb (getD w 4 0) 45) t)),
+      part-cons w 4 5 0 (code "-") (omega arith) (omega arith) (marked-at 5 4 (code "-") w t),
       part-join w 0 4 5 (omega arith) (omega arith),
     )
     (part-whole w 5 l)
 
-office-back : (w : List ℕ) → (officeOf w ≡ 0) ⊎ ((goodLetters 4 (officeOf w) ≡ true) × (spellOffice (officeOf w) ≡ w))
+office-back : (w : List ℕ) → Back spellOffice (goodLetters 4) 0 w (officeOf w)
 unfolding officeOf
 office-back w = by (officeTest w) (λ t. go t (four-letters-reads .back (part 0 4 w))) (λ f. inl (rw f))
   where
-    go : officeTest w ≡ true → (lettersOf 4 (part 0 4 w) ≡ 0) ⊎ ((goodLetters 4 (lettersOf 4 (part 0 4 w)) ≡ true) × (inLetters 4 (lettersOf 4 (part 0 4 w)) ≡ part 0 4 w)) → (officeOf w ≡ 0) ⊎ ((goodLetters 4 (officeOf w) ≡ true) × (spellOffice (officeOf w) ≡ w))
+    go : officeTest w ≡ true → Back (inLetters 4) (goodLetters 4) 0 (part 0 4 w) (lettersOf 4 (part 0 4 w)) → Back spellOffice (goodLetters 4) 0 w (officeOf w)
     go t (inl e) = inl (rw t e)
     go t (inr p) = inr (rw t (p .0), rw (t, p .1) (office-joined w t))
 
 pub office-reads : Reads officeOf spellOffice (goodLetters 4) 0
 office-reads = record { forth = office-forth; back = office-back; refuses = four-letters-reads .refuses }
 
-pub office-plain : (o : ℕ) → goodLetters 4 o ≡ true → runOf plain (spellOffice o) ≡ true
+pub office-plain : (o : ℕ) → goodLetters 4 o ≡ true → plainWord (spellOffice o) ≡ true
 unfolding allOf allowed
 office-plain o g =
     run-plain (spellOffice o) (omega (arith, length-office o)) (rw (all-append plain (inLetters 4 o) (bytes "-"), inLetters-plain 4 o g))

@@ -1,5 +1,3 @@
-pub mod Parts
-pub mod Kept
 pub mod HeadingLaws
 pub mod SequenceLaws
 pub mod Determined

@@ -9,27 +9,27 @@ use native.Mathlib.Omega.{arith}
 use lib.Dec.{leb, ltb, eqb, lit<}
 use lib.ListN.{length, getD, drop, length-drop}
 use lib.Seq.{drop-cons}
-use borrow.Author.Tests.{leb-true, le-leb, lt-leb, ltb-true, ne-eqb, eqb-true}
+use borrow.Author.Tests.{le-leb, lt-leb, ltb-true, ne-eqb, eqb-true}
 use Rattle.lists.specs.Choice.{pick, both}
-use Rattle.lists.specs.Lists.{allOf, part}
+use Rattle.lists.specs.Lists.{part}
 use Rattle.lists.proofs.Choice.{by, both-left, both-right, both-true, both-false-left, either-cases, pick-false}
 use Rattle.lists.proofs.Lists.{all-at}
-use Rattle.words.specs.Bytes.{between, letter, digit, plain}
-use Rattle.words.specs.Words.{runOf}
+use Rattle.lists.proofs.Parts.{part-rest}
+use Rattle.words.specs.Bytes.{between, letter, digit}
+use Rattle.words.specs.Words.{plainWord}
+use Rattle.words.proofs.Ranges.{between-low, between-high}
 use Rattle.figures.specs.Figures.{threeOf, inFigures}
 use Rattle.figures.specs.Reads.{Reads}
 use Rattle.figures.proofs.FigureLaws.{length-inFigures, inFigures-digits, three-forth, three-back}
-use Rattle.figures.proofs.PlainLaws.{letter-plain, inFigures-plain}
+use Rattle.figures.proofs.Kept.{kept-reads}
+use Rattle.figures.proofs.PlainLaws.{letter-plain, inFigures-plain, run-plain, plain-cons}
 use Rattle.headings.specs.Sequences.{characters, goodSequence, noSequence, lettered, unlettered, sequenceOf, spellSequence}
 use Rattle.headings.specs.declared.Sequence.{Sequence}
-use Rattle.headings.proofs.HeadingLaws.{run-plain}
-use Rattle.headings.proofs.Kept.{kept-reads}
-use Rattle.headings.proofs.Parts.{part-rest}
 
 pub ten-none : (d : ℕ) → (d ≡ 1 → ⊥) → (d ≡ 2 → ⊥) → (d ≡ 3 → ⊥) → 1 ≡ pick (between 1 3 d) (10 ^ d) 1
 ten-none d p q r =
     by (between 1 3 d)
-    (λ t. absurd (omega (arith, leb-true 1 d (both-left (leb 1 d) (leb d 3) t), leb-true d 3 (both-right (leb 1 d) (leb d 3) t))))
+    (λ t. absurd (omega (arith, between-low 1 3 d t, between-high 1 3 d t)))
     (λ f. sym (pick-false (10 ^ d) 1 f))
 
 -- The tests of a sequence, as the code makes them.
@@ -39,15 +39,9 @@ by-form : {A : Type 0} (s : Sequence) → characters s ≡ true → (s .letter �
 by-form s t bare with =
     either-cases (both (eqb (s .letter) 0) (between 1 3 (s .digits))) (both (letter (s .letter)) (between 1 2 (s .digits))) t
     (λ e. let h : between 1 3 (s .digits) ≡ true = both-right (eqb (s .letter) 0) (between 1 3 (s .digits)) e in
-    bare (eqb-true (s .letter) 0 (both-left (eqb (s .letter) 0) (between 1 3 (s .digits)) e)) (low 3 h) (high 3 h))
+    bare (eqb-true (s .letter) 0 (both-left (eqb (s .letter) 0) (between 1 3 (s .digits)) e)) (between-low 1 3 (s .digits) h) (between-high 1 3 (s .digits) h))
     (λ e. let h : between 1 2 (s .digits) ≡ true = both-right (letter (s .letter)) (between 1 2 (s .digits)) e in
-    with (both-left (letter (s .letter)) (between 1 2 (s .digits)) e) (low 2 h) (high 2 h))
-  where
-    low : (k : ℕ) → between 1 k (s .digits) ≡ true → 1 ≤ s .digits
-    low k h = leb-true 1 (s .digits) (both-left (leb 1 (s .digits)) (leb (s .digits) k) h)
-
-    high : (k : ℕ) → between 1 k (s .digits) ≡ true → s .digits ≤ k
-    high k h = leb-true (s .digits) k (both-right (leb 1 (s .digits)) (leb (s .digits) k) h)
+    with (both-left (letter (s .letter)) (between 1 2 (s .digits)) e) (between-low 1 2 (s .digits) h) (between-high 1 2 (s .digits) h))
 
 characters-some : (s : Sequence) → characters s ≡ true → 1 ≤ s .digits
 characters-some s t = by-form s t (λ e l h. l) (λ e l h. l)
@@ -94,7 +88,7 @@ spell-bare s e = rw e
 spell-lettered : (s : Sequence) → letter (s .letter) ≡ true → spellSequence s ≡ s .letter ∷ inFigures (s .digits) (s .number)
 unfolding spellSequence
 spell-lettered s t =
-    let low : 65 ≤ s .letter = leb-true 65 (s .letter) (both-left (leb 65 (s .letter)) (leb (s .letter) 90) t) in
+    let low : 65 ≤ s .letter = between-low 65 90 (s .letter) t in
     rw (ne-eqb (s .letter) 0 (omega arith))
 
 sequence-passes : (s : Sequence) → goodSequence s ≡ true → between 1 3 (length (spellSequence s)) ≡ true
@@ -108,7 +102,7 @@ figures-first : (k n : ℕ) → 1 ≤ k → letter (getD (inFigures k n) 0 0) �
 figures-first k n h =
     let x : ℕ = getD (inFigures k n) 0 0 in
     let first : digit x ≡ true = all-at digit (inFigures k n) 0 (inFigures-digits k n) 0 (omega (arith, length-inFigures k n)) in
-    both-false-left (leb x 90) (lt-leb 65 x (omega (arith, leb-true x 57 (both-right (leb 48 x) (leb x 57) first))))
+    both-false-left (leb x 90) (lt-leb 65 x (omega (arith, between-high 48 57 x first)))
 
 sequence-gives : (s : Sequence) → goodSequence s ≡ true → sequenceValue (spellSequence s) ≡ s
 sequence-gives s g =
@@ -125,16 +119,15 @@ sequence-spelled w t g =
     rest : threeOf (drop 1 w) < 1000 → getD w 0 0 ∷ inFigures (length w - 1) (threeOf (drop 1 w)) ≡ w
     rest h =
         let figures : inFigures (length w - 1) (threeOf (drop 1 w)) ≡ drop 1 w = rw (length-drop 1 w) at (three-back (drop 1 w) h) in
-        rw figures (sym (drop-cons w 0 0 (leb-true 1 (length w) (both-left (leb 1 (length w)) (leb (length w) 3) t))))
+        rw figures (sym (drop-cons w 0 0 (between-low 1 3 (length w) t)))
 
 pub sequence-reads : Reads sequenceOf spellSequence goodSequence noSequence
 unfolding sequenceOf goodSequence
 sequence-reads =
     kept-reads (λ (w : List ℕ). between 1 3 (length w)) sequenceValue spellSequence goodSequence noSequence sequence-passes sequence-gives sequence-spelled refl
 
-pub sequence-plain : (s : Sequence) → goodSequence s ≡ true → runOf plain (spellSequence s) ≡ true
-unfolding allOf
+pub sequence-plain : (s : Sequence) → goodSequence s ≡ true → plainWord (spellSequence s) ≡ true
 sequence-plain s g =
     by-form s (good-characters s g)
     (λ e l h. rw (spell-bare s e) (run-plain (inFigures (s .digits) (s .number)) (omega (arith, length-inFigures (s .digits) (s .number))) (inFigures-plain (s .digits) (s .number))))
-    (λ e l h. rw (spell-lettered s e) (run-plain (s .letter ∷ inFigures (s .digits) (s .number)) (omega arith) (both-true (letter-plain (s .letter) e) (inFigures-plain (s .digits) (s .number)))))
+    (λ e l h. rw (spell-lettered s e) (plain-cons (s .letter) (inFigures (s .digits) (s .number)) (letter-plain (s .letter) e) (inFigures-plain (s .digits) (s .number))))

@@ -1,21 +1,19 @@
 -- Reading and writing a number in a base undo one another.
 -- Assumes nothing.
-use mathlib.Core.Bool.{Bool, true, false}
-use mathlib.Core.List.{List, [], _∷_, _++_, append-assoc, append-nil}
-use mathlib.Core.Path.{_≡_, refl, ap, sym, _∙_, subst}
-use Prim.Native.Nat.{ℕ, zero, suc, _+_, _-_, _*_, _/_, _%_, _^_, _≤_, _<_, zero-le, suc-le-suc}
-use native.Mathlib.Nat.{zero-add, suc-add, add-suc, add-zero, mod-lt, div-add-mod', div-lt-iff-lt-mul, pow-suc, pow-zero, mul-le-mul-right}
+use mathlib.Core.Bool.{true}
+use mathlib.Core.List.{List, [], _∷_, _++_, append-nil}
+use mathlib.Core.Path.{_≡_, refl, ap, sym, _∙_}
+use Prim.Native.Nat.{ℕ, zero, suc, _+_, _-_, _*_, _/_, _%_, _^_, _<_}
+use native.Mathlib.Nat.{zero-add, suc-add, add-suc, add-zero, mod-lt, div-add-mod', div-lt-iff-lt-mul, pow-suc, pow-zero}
 use native.Mathlib.Numerals.{add-one}
-use native.Mathlib.Omega.{arith}
 use lib.Arith.{digits-div, digits-mod, digits-lt, lt-one}
 use lib.Dec.{ltb, lit<}
 use lib.ListN.{length, length-append}
 use lib.Seq.{append-snoc}
 use borrow.Author.Tests.{ltb-true, lt-ltb}
-use Rattle.lists.specs.Choice.{both}
 use Rattle.lists.specs.Lists.{allOf}
 use Rattle.lists.specs.Base.{worthAfter, worth, places}
-use Rattle.lists.proofs.Choice.{both-left, both-right, both-true}
+use Rattle.lists.proofs.Choice.{both-left, both-right}
 use Rattle.lists.proofs.Lists.{all-append}
 
 pub worth-append : (b n : ℕ) (xs ys : List ℕ) → worthAfter b n (xs ++ ys) ≡ worthAfter b (worthAfter b n xs) ys

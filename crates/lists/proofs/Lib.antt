@@ -1,4 +1,5 @@
 pub mod Choice
 pub mod Lists
+pub mod Parts
 pub mod Base
 pub mod Determined

@@ -7,25 +7,26 @@ use mathlib.Core.Path.{_≡_, refl, ap, sym, _∙_}
 use Prim.Native.Nat.{ℕ, suc, _+_, _-_, _≤_, _<_, zero-le, suc-le-suc}
 use native.Mathlib.Nat.{not-suc-le-zero}
 use native.Mathlib.Omega.{arith}
-use lib.Dec.{leb, ltb, eqb, lit<}
+use lib.Dec.{ltb, eqb, lit<}
 use lib.ListN.{length, take, drop, getD, length-drop}
-use lib.Seq.{split-at, drop-drop, take-all}
-use borrow.Author.Tests.{leb-true, le-ltb, lt-ltb, eqb-true, eqb-false, eq-eqb, ne-eqb, not-true}
+use lib.Seq.{split-at, drop-drop}
+use borrow.Author.Tests.{lt-ltb, eqb-true, eqb-false, eq-eqb, ne-eqb, not-true}
 use Rattle.lists.specs.Base.{worthAfter}
 use Rattle.lists.specs.Choice.{both}
 use Rattle.lists.specs.Lists.{indexOf, indexFrom, allOf, part, same}
 use Rattle.lists.specs.Text.{bytes}
-use Rattle.lists.proofs.Choice.{by, clash, both-left, both-right, both-true, pick-false, either-cases}
-use Rattle.lists.proofs.Lists.{index-found, index-clear, index-all, all-append, all-weaken, all-at}
-use Rattle.words.specs.Bytes.{letter, solid, equals, allowed, plain}
-use Rattle.words.specs.Words.{wordsIn, runOf, solidWord, line}
-use Rattle.words.proofs.Words.{run-of, run-some, run-all, words-line-end}
+use Rattle.lists.proofs.Choice.{by, clash, both-unit, both-left, both-right, both-true, either-cases}
+use Rattle.lists.proofs.Lists.{index-found, index-clear, index-all, all-append, all-weaken}
+use Rattle.lists.proofs.Parts.{part-rest}
+use Rattle.words.specs.Bytes.{letter, solid, allowed, plain}
+use Rattle.words.specs.Words.{wordsIn, solidWord, plainWord, line}
+use Rattle.words.proofs.Words.{run-all, words-line-end}
 use Rattle.figures.specs.Keywords.{codeOf, distinct, wordIn, inTable}
 use Rattle.figures.specs.Reads.{Reads}
 use Rattle.figures.specs.Tables.{numbered}
 use Rattle.figures.proofs.Keywords.{same-code}
-use Rattle.figures.proofs.PlainLaws.{letter-plain}
-use Rattle.figures.proofs.TableLaws.{numbers-reads}
+use Rattle.figures.proofs.PlainLaws.{letter-plain, byte-solid, plain-solid}
+use Rattle.figures.proofs.TableLaws.{numbered-all, numbers-reads}
 use Rattle.names.specs.Names.{closingWords, closingOf, goodClosing, nameByte, nameWord, closers, inName, onto, pieces, nameText}
 
 -- Closing words.
@@ -136,7 +137,7 @@ pieces-line (w ∷ v ∷ ws) h t =
 
 all-one : (f : List ℕ → Bool) (w : List ℕ) → allOf f (w ∷ []) ≡ f w
 unfolding allOf
-all-one f w = by (f w) (λ e. rw e) (λ e. rw e)
+all-one f w = both-unit (f w)
 
 -- What `name_text` keeps: all pieces from place `at` on are still to be tested, and the first of them ends at place `stop`.
 
@@ -168,7 +169,7 @@ module _ (m : Bool) (t : List ℕ) {at stop : ℕ} (c : Cut m t at stop) where
   cut-ends h =
       let left : length (drop at t) ≡ length t - at = length-drop at t in
       let last : pieces (drop at t) ≡ drop at t ∷ [] = pieces-last (drop at t) (omega arith) in
-      c .rest ∙ rw (last, take-all (length t - at) (drop at t) (omega arith)) (all-one (inName m) (drop at t))
+      c .rest ∙ rw (last, part-rest t at) (all-one (inName m) (drop at t))
 
 -- The words of a name, and a name grown by a word.
 
@@ -193,7 +194,7 @@ pub name-byte-plain : (x : ℕ) → nameByte x ≡ true → plain x ≡ true
 unfolding allowed
 name-byte-plain x e = either-cases (letter x) (eqb x 45) e (letter-plain x) (λ h. rw (eqb-true x 45 h))
 
-pub name-word-plain : (w : List ℕ) → nameWord w ≡ true → runOf plain w ≡ true
+pub name-word-plain : (w : List ℕ) → nameWord w ≡ true → plainWord w ≡ true
 unfolding nameWord
 name-word-plain w e =
     let ends : Bool = both (letter (getD w 0 0)) (letter (getD w (length w - 1) 0)) in
@@ -201,32 +202,22 @@ name-word-plain w e =
     both-true (both-left (ltb 0 (length w)) (both (allOf nameByte w) ends) e)
     (all-weaken nameByte plain name-byte-plain w (both-left (allOf nameByte w) ends rest))
 
-pub in-name-plain : (m : Bool) (w : List ℕ) → inName m w ≡ true → runOf plain w ≡ true
+pub in-name-plain : (m : Bool) (w : List ℕ) → inName m w ≡ true → plainWord w ≡ true
 in-name-plain m w e = name-word-plain w (both-left (nameWord w) (not (inTable (closers m) (wordIn (closers m) w))) e)
 
-pub pieces-plain : (m : Bool) (t : List ℕ) → nameText m t ≡ true → allOf (runOf plain) (pieces t) ≡ true
+pub pieces-plain : (m : Bool) (t : List ℕ) → nameText m t ≡ true → allOf plainWord (pieces t) ≡ true
 unfolding nameText
-pieces-plain m t e = all-weaken (inName m) (runOf plain) (in-name-plain m) (pieces t) e
+pieces-plain m t e = all-weaken (inName m) plainWord (in-name-plain m) (pieces t) e
 
-pub closing-plain : (n : ℕ) → goodClosing n ≡ true → runOf plain (numbered 1 closingWords n) ≡ true
+pub closing-plain : (n : ℕ) → goodClosing n ≡ true → plainWord (numbered 1 closingWords n) ≡ true
 unfolding closingWords allOf allowed
-closing-plain n g =
-    let low : 1 ≤ n = leb-true 1 n (both-left (leb 1 n) (leb n 3) g) in
-    let high : n ≤ 3 = leb-true n 3 (both-right (leb 1 n) (leb n 3) g) in
-    let word : numbered 1 closingWords n ≡ getD closingWords (n - 1) [] = pick-false [] (getD closingWords (n - 1) []) (le-ltb n 1 low) in
-    rw word (all-at (runOf plain) closingWords [] refl (n - 1) (omega arith))
-
-plain-solid : (x : ℕ) → plain x ≡ true → solid x ≡ true
-plain-solid x e = both-left (solid x) (not (equals x)) (both-right (allowed x) (both (solid x) (not (equals x))) e)
-
-run-solid : (w : List ℕ) → runOf plain w ≡ true → solidWord w ≡ true
-run-solid w e = run-of solid w (run-some plain w e) (all-weaken plain solid plain-solid w (run-all plain w e))
+closing-plain n g = numbered-all plainWord 1 closingWords (lit< tt) refl n g
 
 solid-space : (x : ℕ) → solid x ≡ true → not (eqb 32 x) ≡ true
 solid-space x e = by (eqb 32 x) (λ h. clash false (rw (← (eqb-true 32 x h)) at e) refl) (λ h. rw h)
 
-pub plain-spaceless : (w : List ℕ) → runOf plain w ≡ true → spaceless w ≡ true
-plain-spaceless w e = all-weaken plain (λ (x : ℕ). not (eqb 32 x)) (λ x h. solid-space x (plain-solid x h)) w (run-all plain w e)
+pub plain-spaceless : (w : List ℕ) → plainWord w ≡ true → spaceless w ≡ true
+plain-spaceless w e = all-weaken plain (λ (x : ℕ). not (eqb 32 x)) (λ x h. solid-space x (byte-solid x h)) w (run-all plain w e)
 
 -- a name word has no space
 pub name-word-spaceless : (w : List ℕ) → nameWord w ≡ true → spaceless w ≡ true
@@ -244,4 +235,4 @@ name-grow m t w e f = name-append m t w ∙ both-true e (name-one m w f)
 -- the words of a name's text are its pieces, and the `=`
 pub name-words : (m : Bool) (t : List ℕ) → nameText m t ≡ true → wordsIn t ≡ pieces t ++ ([] ∷ [])
 name-words m t e =
-    ap wordsIn (sym (line-pieces t)) ∙ words-line-end (pieces t) (all-weaken (runOf plain) solidWord run-solid (pieces t) (pieces-plain m t e))
+    ap wordsIn (sym (line-pieces t)) ∙ words-line-end (pieces t) (all-weaken plainWord solidWord plain-solid (pieces t) (pieces-plain m t e))

@@ -8,7 +8,7 @@ use lib.Dec.{ltb}
 use lib.ListN.{length, drop}
 use Rattle.lists.specs.Choice.{pick, both}
 use Rattle.lists.specs.Lists.{indexFrom, allOf}
-use Rattle.words.specs.Bytes.{blank, solid}
+use Rattle.words.specs.Bytes.{blank, solid, plain}
 use Rattle.words.specs.declared.Span.{Span}
 
 -- a word and the place where it begins
@@ -48,6 +48,10 @@ solidWord w = runOf solid w
 
 abbrev pub gap : List ℕ → Bool
 gap s = runOf blank s
+
+-- a run of the bytes that a word of the paper may have
+abbrev pub plainWord : List ℕ → Bool
+plainWord w = runOf plain w
 
 -- words joined by single spaces
 unfoldable pub line : List (List ℕ) → List ℕ

@@ -3,7 +3,7 @@ use borrow.Author.Needs.{needs}
 use borrow.Author.Tests.{eq-eqb, ne-eqb}
 use Rattle.groups.specs.Groups.{groupOf, goodGroup, noGroup}
 use Rattle.groups.proofs.GroupLaws.{group-made}
-use Rattle.groups.proofs.Kept.{kept-untested, kept-good, kept-bad}
+use Rattle.figures.proofs.Kept.{kept-untested, kept-good, kept-bad}
 use Rattle.groups.proofs.group_word.Statement.{statement}
 use Rattle.groups.proofs.group_word.Tie as tie
 

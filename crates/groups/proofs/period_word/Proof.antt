@@ -6,7 +6,7 @@ use borrow.Author.Tests.{eq-eqb, ne-eqb}
 use Rattle.lists.proofs.Choice.{both-true, both-false-left, both-false-right}
 use Rattle.groups.specs.Groups.{periodOf, goodPeriod, noPeriod}
 use Rattle.groups.proofs.GroupLaws.{period-made}
-use Rattle.groups.proofs.Kept.{kept-untested, kept-good, kept-bad}
+use Rattle.figures.proofs.Kept.{kept-untested, kept-good, kept-bad}
 use Rattle.groups.proofs.period_word.Statement.{statement}
 use Rattle.groups.proofs.period_word.Tie as tie
 

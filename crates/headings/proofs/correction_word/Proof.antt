@@ -6,7 +6,7 @@ use borrow.Author.Tests.{eq-eqb, ne-eqb}
 use borrow.Author.Needs.{needs}
 use Rattle.headings.specs.Headings.{goodCorrection}
 use Rattle.headings.specs.Headings.{correctionOf}
-use Rattle.headings.proofs.Kept.{kept-good, kept-bad}
+use Rattle.figures.proofs.Kept.{kept-good, kept-bad}
 use Rattle.headings.proofs.HeadingLaws.{correction-passes}
 use Rattle.headings.proofs.correction_word.Statement.{statement}
 use Rattle.headings.proofs.correction_word.Tie as tie

@@ -6,7 +6,7 @@ use borrow.Author.Tests.{ne-eqb}
 use borrow.Author.Needs.{needs}
 use Rattle.headings.specs.Headings.{goodDesignator, noDesignator}
 use Rattle.headings.specs.Headings.{designatorOf}
-use Rattle.headings.proofs.Kept.{kept-good, kept-bad}
+use Rattle.figures.proofs.Kept.{kept-good, kept-bad}
 use Rattle.headings.proofs.designator_word.Statement.{statement}
 use Rattle.headings.proofs.designator_word.Tie as tie
 

@@ -7,7 +7,7 @@ use borrow.Author.Needs.{needs}
 use Rattle.lists.proofs.Choice.{both-true}
 use Rattle.headings.specs.Sequences.{goodSequence, noSequence, sequenceOf}
 use Rattle.headings.proofs.SequenceLaws.{with-letter, without-letter}
-use Rattle.headings.proofs.Kept.{kept-good, kept-bad}
+use Rattle.figures.proofs.Kept.{kept-good, kept-bad}
 use Rattle.headings.proofs.sequence_word.Statement.{statement}
 use Rattle.headings.proofs.sequence_word.Tie as tie
 

@@ -4,8 +4,9 @@ use mathlib.Core.Path.{_≡_}
 use borrow.Author.Needs.{needs}
 use Rattle.lists.specs.Lists.{part, same}
 use Rattle.lists.specs.Text.{bytes}
+use Rattle.figures.proofs.Codes.{same-yes, same-no}
 use Rattle.levels.specs.Levels.{goodLevelWord}
-use Rattle.levels.proofs.Codes.{same-yes, same-no, coded-fl}
+use Rattle.levels.proofs.Codes.{coded-fl}
 use Rattle.levels.proofs.five_bytes.Statement.{statement}
 use Rattle.levels.proofs.five_bytes.Tie as tie
 

@@ -1,6 +1,7 @@
 -- `nine_bytes` meets its contract: its test is that of the definition. Assumes nothing.
 use borrow.Author.Needs.{needs}
-use Rattle.levels.proofs.Codes.{same-yes, same-no, coded-sfc}
+use Rattle.figures.proofs.Codes.{same-yes, same-no}
+use Rattle.levels.proofs.Codes.{coded-sfc}
 use Rattle.levels.proofs.nine_bytes.Statement.{statement}
 use Rattle.levels.proofs.nine_bytes.Tie as tie
 

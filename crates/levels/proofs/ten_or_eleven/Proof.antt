@@ -9,11 +9,12 @@ use borrow.Author.Needs.{needs}
 use Rattle.lists.specs.Lists.{part, same}
 use Rattle.lists.specs.Choice.{both}
 use Rattle.lists.specs.Text.{bytes}
+use Rattle.lists.proofs.Parts.{part-rest}
 use Rattle.words.specs.Bytes.{between}
 use Rattle.figures.specs.Keywords.{codeOf}
+use Rattle.figures.proofs.Codes.{same-yes, same-no}
 use Rattle.levels.specs.Levels.{feetFigures}
-use Rattle.levels.proofs.Codes.{same-yes, same-no, coded-ft, coded-sfc}
-use Rattle.levels.proofs.Parts.{part-rest}
+use Rattle.levels.proofs.Codes.{coded-ft, coded-sfc}
 use Rattle.levels.proofs.ten_or_eleven.Statement.{statement}
 use Rattle.levels.proofs.ten_or_eleven.Tie as tie
 

@@ -2,16 +2,17 @@
 -- Assumes nothing.
 use mathlib.Core.Bool.{Bool, true}
 use mathlib.Core.List.{List, _∷_, _++_}
-use mathlib.Core.Path.{_≡_}
+use mathlib.Core.Path.{_≡_, sym, _∙_}
 use Prim.Native.Nat.{ℕ, suc, _+_, _-_, _≤_, _<_}
+use native.Mathlib.Nat.{le-refl}
 use native.Mathlib.Omega.{arith}
 use lib.Dec.{eqb}
-use lib.ListN.{length, drop, getD}
+use lib.ListN.{length, drop, getD, length-drop, take-append-drop}
 use lib.Seq.{take-all, take-at, drop-cons, drop-drop, drop-append-add, getD-append-add, take-add}
 use borrow.Author.Tests.{eqb-true, eq-eqb}
 use Rattle.lists.specs.Choice.{both}
 use Rattle.lists.specs.Lists.{part}
 use Rattle.lists.proofs.Choice.{both-left, both-right, both-true}
 
 module _ {A : Type 0} where
   pub part-whole : (xs : List A) (n : ℕ) → length xs ≡ n → part 0 n xs ≡ xs
@@ -38,6 +39,23 @@ module _ {A : Type 0} where
   part-cons xs i e d x h k t =
       let long : e - i ≡ suc (e - suc i) = omega arith in
       rw (long, drop-cons xs i d k, t)
+
+  -- a part that goes to the end is what is left there
+  pub part-rest : (xs : List A) (a : ℕ) → part a (length xs) xs ≡ drop a xs
+  part-rest xs a = take-all (length xs - a) (drop a xs) (rw length-drop (le-refl (length xs - a)))
+
+  -- A list taken apart from the left. What stands from place a on: the part up to place e and what stands from there on, or one
+  -- element and what stands after it, or the part up to the end.
+  pub drop-part : (xs : List A) (a e : ℕ) → a ≤ e → {x y : List A} → part a e xs ≡ x → drop e xs ≡ y → drop a xs ≡ x ++ y
+  drop-part xs a e h p q =
+      let there : a + (e - a) ≡ e = omega arith in
+      sym (take-append-drop (e - a) (drop a xs)) ∙ rw (drop-drop (e - a) a xs, there, p, q)
+
+  pub drop-one : (xs : List A) (a : ℕ) (d : A) → a < length xs → {x : A} {y : List A} → getD xs a d ≡ x → drop (suc a) xs ≡ y → drop a xs ≡ x ∷ y
+  drop-one xs a d h p q = drop-cons xs a d h ∙ rw (p, q)
+
+  pub drop-end : (xs : List A) (a e : ℕ) → length xs ≡ e → {x : List A} → part a e xs ≡ x → drop a xs ≡ x
+  drop-end xs a e n p = sym (part-rest xs a) ∙ rw (n, p)
 
 -- the word has n bytes, and x is the one at place i
 abbrev pub marked : ℕ → ℕ → ℕ → List ℕ → Bool

@@ -20,6 +20,14 @@ kept-good good none t e g h = cc
 pub kept-bad : {A : Type 0} (good : A → Bool) (none : A) {test r : Bool} {value v : A} → test ≡ true → v ≡ value → r ≡ good v → r ≡ false → none ≡ pick test (kept good none value) none
 kept-bad good none t e g h = cc
 
+-- What `back` of `Reads` says of a word and the value v that it is read as; and a value that is kept where it is good says it.
+module _ {A : Type 0} (spell : A → List ℕ) (good : A → Bool) (none : A) (w : List ℕ) where
+  abbrev pub Back : A → Type 0
+  Back v = (v ≡ none) ⊎ ((good v ≡ true) × (spell v ≡ w))
+
+  pub kept-back : (v : A) → (good v ≡ true → spell v ≡ w) → Back (kept good none v)
+  kept-back v s = by (good v) (λ g. inr (rw g g, rw g (s g))) (λ f. inl (rw f))
+
 -- Such a reader and its spelling: what is left to show is that a good value's spelling passes the test and has that value, and that a
 -- word which passes the test and has a good value is its spelling.
 pub kept-reads : {A : Type 0} (test : List ℕ → Bool) (value : List ℕ → A) (spell : A → List ℕ) (good : A → Bool) (none : A)
@@ -31,7 +39,7 @@ pub kept-reads : {A : Type 0} (test : List ℕ → Bool) (value : List ℕ → A
 kept-reads test value spell good none passes gives spelled out = record {
   forth = λ v g. sym (kept-good good none (passes v g) (sym (gives v g)) (sym g) refl);
   back = λ w. by (test w)
-      (λ t. by (good (value w)) (λ g. inr (rw (t, g) g, rw (t, g) (spelled w t g))) (λ f. inl (rw (t, f))))
+      (λ t. rw t (kept-back spell good none w (value w) (spelled w t)))
       (λ f. inl (rw f));
   refuses = out;
 }
@@ -41,6 +49,6 @@ pub reads-spelled : {A : Type 0} {read : List ℕ → A} {spell : A → List ℕ
     → (w : List ℕ) → good (read w) ≡ true → spell (read w) ≡ w
 reads-spelled {read = read} {spell = spell} {good = good} {none = none} laws w g = go (laws .back w)
   where
-    go : (read w ≡ none) ⊎ ((good (read w) ≡ true) × (spell (read w) ≡ w)) → spell (read w) ≡ w
+    go : Back spell good none w (read w) → spell (read w) ≡ w
     go (inl e) = clash (good (read w)) g (rw e (laws .refuses))
     go (inr p) = p .1
