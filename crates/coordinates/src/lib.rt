@@ -67,7 +67,7 @@ pub fn signed(c: Coordinate) -> i32
     }
 }
 
-// How many minutes lie between two coordinates of one axis.
+// How far apart the signed values of two coordinates are.
 fn apart_by(c: Coordinate, d: Coordinate) -> u32
     ensures { λ r. ⌜ r ≡ apart (signedOf c) (signedOf d) ⌝ }
 {
@@ -79,7 +79,7 @@ fn apart_by(c: Coordinate, d: Coordinate) -> u32
     }
 }
 
-// The same place on the globe: E180 and W180 are one meridian.
+// "Points are equal when their latitudes are equal and their longitudes differ by 0 or 21,600."
 pub fn same_point(p: Point, q: Point) -> bool
     ensures { λ r. ⌜ r ≡ samePoint p q ⌝ }
 {

@@ -1,4 +1,4 @@
--- Fixed words. A word of at most seven bytes has a code, so that fixed words are told apart by one number.
+-- Fixed words. A word of at most seven bytes has a code, so that such words are told apart by one number.
 -- Assumes nothing.
 use mathlib.Core.Bool.{Bool, true, not}
 use mathlib.Core.List.{List, [], _∷_}

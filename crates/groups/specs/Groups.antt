@@ -53,7 +53,7 @@ periodOf w =
 unfoldable pub spellPeriod : Period → List ℕ
 spellPeriod p = spellGroup (p .from) ++ (code "/" ∷ spellGroup (p .to))
 
--- `GGggZ`. Where there is none, the hour is 24, which no clock shows.
+-- `GGggZ`: "hour and minute alike". A word that is no time is answered with hour 24, which no clock shows.
 unfoldable pub goodTime : Time → Bool
 goodTime t = onClock (t .hour) (t .minute)
 

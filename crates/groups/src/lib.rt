@@ -16,7 +16,7 @@ pub struct Period {
     pub to: Group,
 }
 
-// Hour 24 is no time.
+// Hour and minute of a day; hour 24 is what `time_word` answers where a word is no time.
 pub struct Time {
     pub hour: u8,
     pub minute: u8,

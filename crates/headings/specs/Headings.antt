@@ -44,7 +44,7 @@ designatorOf w =
 unfoldable pub spellDesignator : Designator → List ℕ
 spellDesignator d = numbered 2 typeWords (d .kind) ++ (inLetters 2 (d .region) ++ inFigures 2 (d .number))
 
--- "a correction, `CCA` to `CCX`": the letter A to X, 0 for none
+-- "a correction, `CCA` to `CCX`": the letter A to X; a word that is no correction is answered with 0
 unfoldable pub goodCorrection : ℕ → Bool
 goodCorrection c = between (code "A") (code "X") c
 

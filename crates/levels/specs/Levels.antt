@@ -71,7 +71,7 @@ bandNine w =
 abbrev pub nine : List ℕ → Level
 nine w = pick (same (part 0 4 w) (bytes "SFC/")) (surfaceNine w) (bandNine w)
 
--- `SFC/` and so many figures and `FT`, where just so many figures are wanted
+-- so many feet, where the word has as many figures as those feet are written in
 abbrev pub feet : ℕ → List ℕ → Level
 feet n w = pick (both (between 1 99999 n) (eqb (feetFigures n) (length w - 6))) (SurfaceFeet n) NoLevel
 

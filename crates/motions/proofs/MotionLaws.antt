@@ -15,7 +15,7 @@ use Rattle.lists.specs.Text.{bytes}
 use Rattle.lists.proofs.Choice.{by, clash, both-left, both-right, both-true, both-false-right, pick-false}
 use Rattle.lists.proofs.Lists.{all-at, all-append, length-part}
 use Rattle.words.specs.Bytes.{between, allowed, plain}
-use Rattle.words.specs.Words.{runOf}
+use Rattle.words.specs.Words.{runOf, plainWord}
 use Rattle.figures.specs.Figures.{twoOf, inFigures}
 use Rattle.figures.specs.Keywords.{short, codeOf, distinct, wordOf}
 use Rattle.figures.specs.Reads.{Reads}
@@ -23,11 +23,11 @@ use Rattle.figures.specs.Tables.{numberIn, numbered, inNumbers}
 use Rattle.figures.proofs.FigureLaws.{length-inFigures, two-forth, two-back}
 use Rattle.figures.proofs.Keywords.{find-word, table-reads}
 use Rattle.figures.proofs.PlainLaws.{inFigures-plain}
-use Rattle.figures.proofs.TableLaws.{number-at, number-none, numbers-reads}
+use Rattle.figures.proofs.TableLaws.{number-at, number-none, numbers-reads, numbered-all}
 use Rattle.motions.specs.Motions.{compassWords, compassOf, goodCompass, spellCompass, intensityWords, intensityOf, goodIntensity, spellIntensity}
 use Rattle.motions.specs.Speeds.{unitWords, goodSpeed, noSpeed, speedOf, spellSpeed}
 use Rattle.motions.specs.declared.Speed.{Speed}
-use Rattle.motions.proofs.Kept.{kept-reads, reads-spelled}
+use Rattle.figures.proofs.Kept.{kept-reads, reads-spelled}
 
 -- The compass.
 
@@ -47,16 +47,9 @@ pub compass-reads : Reads compassOf spellCompass goodCompass 16
 unfolding compassWords
 compass-reads = table-reads compassWords compass-distinct
 
-pub compass-plain : (n : ℕ) → goodCompass n ≡ true → runOf plain (spellCompass n) ≡ true
+pub compass-plain : (n : ℕ) → goodCompass n ≡ true → plainWord (spellCompass n) ≡ true
 unfolding compassWords allOf allowed
 compass-plain n g = all-at (runOf plain) compassWords [] refl n (ltb-true n (length compassWords) g)
-
--- what holds of every word of a table holds of the word of a number
-numbered-all : (f : List ℕ → Bool) (first : ℕ) (table : List (List ℕ)) → 0 < length table → allOf f table ≡ true → (n : ℕ) → inNumbers first table n ≡ true → f (numbered first table n) ≡ true
-numbered-all f first table some t n g =
-    let low : first ≤ n = leb-true first n (both-left (leb first n) (leb n (first + length table - 1)) g) in
-    let high : n ≤ first + length table - 1 = leb-true n (first + length table - 1) (both-right (leb first n) (leb n (first + length table - 1)) g) in
-    rw (le-ltb n first low) (all-at f table [] t (n - first) (omega arith))
 
 -- The intensity.
 
@@ -81,7 +74,7 @@ pub intensity-reads : Reads intensityOf spellIntensity goodIntensity 0
 unfolding intensityWords
 intensity-reads = numbers-reads 1 intensityWords (lit< tt) (lit< tt) intensity-distinct
 
-pub intensity-plain : (n : ℕ) → goodIntensity n ≡ true → runOf plain (spellIntensity n) ≡ true
+pub intensity-plain : (n : ℕ) → goodIntensity n ≡ true → plainWord (spellIntensity n) ≡ true
 unfolding intensityWords allOf allowed
 intensity-plain n g = numbered-all (runOf plain) 1 intensityWords (lit< tt) refl n g
 
@@ -159,7 +152,7 @@ pub speed-reads : Reads speedOf spellSpeed goodSpeed noSpeed
 unfolding speedOf goodSpeed
 speed-reads = kept-reads (λ (w : List ℕ). true) speedValue spellSpeed goodSpeed noSpeed (λ s t. refl) speed-gives (λ w e t. speed-spelled w t) refl
 
-pub speed-plain : (s : Speed) → goodSpeed s ≡ true → runOf plain (spellSpeed s) ≡ true
+pub speed-plain : (s : Speed) → goodSpeed s ≡ true → plainWord (spellSpeed s) ≡ true
 unfolding spellSpeed
 speed-plain s t =
     both-true

@@ -5,7 +5,7 @@ use native.Mathlib.Omega.{arith}
 use borrow.Author.Needs.{needs}
 use Rattle.motions.specs.Speeds.{goodSpeed, noSpeed, speedOf}
 use Rattle.motions.proofs.MotionLaws.{speed-short, speed-parts}
-use Rattle.motions.proofs.Kept.{kept-good, kept-bad}
+use Rattle.figures.proofs.Kept.{kept-good, kept-bad}
 use Rattle.motions.proofs.speed_word.Statement.{statement}
 use Rattle.motions.proofs.speed_word.Tie as tie
 
