@@ -1,6 +1,7 @@
 // The fixed words of the paper that have no table of their own: phenomenon words and keywords, by number.
 ghost use mathlib.Core.Path.{_≡_};
-ghost use Rattle.keywords.specs.Keywords.{keywordOf};
+ghost use Rattle.figures.specs.Tables.{numberIn};
+ghost use Rattle.keywords.specs.Keywords.{keywordOf, longKeywords};
 use figures::code;
 use figures::find;
 use lists::both;
@@ -50,39 +51,31 @@ const SHORT: [u64; 41] = [
     0x01_53_54_4e_52,
 ];
 
-// The number of a keyword, from 1 on; 0 of any other word.
+// The number of a keyword, from 1 on; 0 of any other word. A word of more than seven bytes has code 0, which is not in the table.
 pub fn keyword(w: &[u8]) -> u8
     ensures { λ r. ⌜ r ≡ keywordOf (now (w .entry)) ⌝ }
 {
-    let length = w.len();
-    if length < 8 {
-        return short_keyword(w);
+    let n = find(&SHORT, code(w));
+    if n < 41 {
+        return (n + 1) as u8;
     }
-    if length == 8 {
-        return if both(
-            code(&w[0..4]) == 0x01_45_52_55_50,
-            code(&w[4..8]) == 0x01_54_49_4f_4e,
-        ) {
-            42
-        } else {
-            0
-        };
-    }
-    if length == 9 {
-        return if both(
-            code(&w[0..4]) == 0x01_44_49_53_52,
-            code(&w[4..9]) == 0x01_45_47_41_52_44,
-        ) {
-            43
-        } else {
-            0
-        };
-    }
-    0
+    long_keyword(w)
 }
 
-// The same for a word of at most seven bytes.
-fn short_keyword(w: &[u8]) -> u8 {
-    let n = find(&SHORT, code(w));
-    if n < 41 { (n + 1) as u8 } else { 0 }
+// The same among the words of eight and nine bytes: each is told by the code of its first four bytes and the code of the rest.
+fn long_keyword(w: &[u8]) -> u8
+    ensures { λ r. ⌜ r ≡ numberIn 42 longKeywords (now (w .entry)) ⌝ }
+{
+    if w.len() < 4 {
+        return 0;
+    }
+    let head = code(&w[0..4]);
+    let rest = code(&w[4..]);
+    if both(head == 0x01_45_52_55_50, rest == 0x01_54_49_4f_4e) {
+        return 42;
+    }
+    if both(head == 0x01_44_49_53_52, rest == 0x01_45_47_41_52_44) {
+        return 43;
+    }
+    0
 }
