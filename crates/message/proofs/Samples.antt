@@ -1,6 +1,6 @@
 -- The sample evaluated: its record is good, and its canonical text is the paper's 130 bytes.
 -- Assumes nothing.
-use mathlib.Core.Bool.{true}
+use mathlib.Core.Bool.{true, false}
 use mathlib.Core.Path.{_≡_, refl}
 use lib.ListN.{length}
 use Rattle.lists.specs.Base.{worthAfter, places}
@@ -20,6 +20,7 @@ use Rattle.message.specs.Names.{goodName, emptyName}
 use Rattle.message.specs.Locations.{goodSide, emptySide, goodBound, noPoints, goodOutline, goodExtent, emptyExtent, boundWords, dashed, joined, extentWords}
 use Rattle.message.specs.Records.{goodHeading, goodLine, goodArea, namesItself, goodForm, good}
 use Rattle.message.specs.Reports.{phenomena, goodVolcano, emptyVolcano, goodPhenomenon, phenomenonWords, goodObservation, emptyObservation, observationWords, goodEnding, emptyEnding, endingWords, goodReport, emptyReport, reportWords}
+use Rattle.message.specs.Empty.{noRecord}
 use Rattle.message.specs.Sample.{sample, sampleText}
 use Rattle.message.specs.Words.{headingWords, lineWords, areaWords, testTexts, formWords, bodyWords, wordsOf, textOf}
 
@@ -36,3 +37,8 @@ sample-text = refl
 pub sample-length : length sampleText ≡ 130
 unfolding sampleText
 sample-length = refl
+
+-- the empty record is a bad one
+pub empty-bad : good noRecord ≡ false
+unfolding good goodHeading goodDesignator typeWords
+empty-bad = refl

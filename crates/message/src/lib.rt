@@ -1,6 +1,7 @@
 // The record of one SIGMET. Where a form does not use a place, the place is zero and a choice takes its empty case.
 ghost use mathlib.Core.Path.{_≡_};
-ghost use Rattle.message.specs.Empty.{noRecord};
+ghost use Rattle.groups.specs.Groups.{noGroup};
+ghost use Rattle.message.specs.Empty.{noHeading, noLine, noRecord};
 ghost use Rattle.message.specs.Records.{goodHeading, goodLine, goodArea, sameSequence, sameGroup, namesItself, goodCancellation, goodForm, good};
 
 mod locating;
@@ -25,6 +26,11 @@ use lists::both;
 use lists::either;
 use motions::Speed;
 
+// How many bytes are kept of a name, and how many points of an outline.
+pub const NAME_BYTES: usize = 50;
+
+pub const MOST_POINTS: usize = 7;
+
 // Letters are kept as one number, in base 256.
 pub struct Heading {
     pub designator: Designator,
@@ -42,7 +48,7 @@ pub struct FirstLine {
 
 // The text of a name, its words parted by single spaces: the first `count` bytes. The others are zero.
 pub struct Name {
-    pub bytes: [u8; 50],
+    pub bytes: [u8; NAME_BYTES],
     pub count: usize,
 }
 
@@ -96,7 +102,7 @@ pub enum Location {
 // A location with the points of its outline beside it.
 pub struct Extent {
     pub location: Location,
-    pub points: [Point; 7],
+    pub points: [Point; MOST_POINTS],
 }
 
 // Movement as compass point, speed and intensity; no movement and intensity; or intensity and a forecast.
@@ -126,41 +132,60 @@ pub struct Record {
     pub report: Report,
 }
 
-// The empty record, all zero, that goes with every refusal.
-pub fn empty() -> Record
-    ensures { λ r. ⌜ r ≡ noRecord ⌝ }
+fn no_group() -> Group
+    ensures { λ r. ⌜ r ≡ noGroup ⌝ }
 {
-    let group = Group {
+    Group {
         day: 0,
         hour: 0,
         minute: 0,
-    };
+    }
+}
+
+fn no_heading() -> Heading
+    ensures { λ r. ⌜ r ≡ noHeading ⌝ }
+{
     let designator = Designator {
         kind: 0,
         region: 0,
         number: 0,
     };
-    let heading = Heading {
+    let sent = no_group();
+    Heading {
         designator,
         centre: 0,
-        sent: group,
+        sent,
         correction: 0,
-    };
+    }
+}
+
+fn no_line() -> FirstLine
+    ensures { λ r. ⌜ r ≡ noLine ⌝ }
+{
     let sequence = Sequence {
         letter: 0,
         digits: 0,
         number: 0,
     };
+    let group = no_group();
     let valid = Period {
         from: group,
         to: group,
     };
-    let line = FirstLine {
+    FirstLine {
         unit: 0,
         sequence,
         valid,
         office: 0,
-    };
+    }
+}
+
+// The empty record, all zero, that goes with every refusal.
+pub fn empty() -> Record
+    ensures { λ r. ⌜ r ≡ noRecord ⌝ }
+{
+    let heading = no_heading();
+    let line = no_line();
     let name = naming::none();
     let area = Area {
         indicator: 0,
@@ -205,7 +230,7 @@ fn good_area(a: Area) -> bool
     let closing = both(1 <= a.closing, a.closing <= 3);
     both(
         four_letters(a.indicator),
-        both(naming::good(name, false, 50), closing),
+        both(naming::good(name, false, NAME_BYTES), closing),
     )
 }
 

@@ -9,6 +9,7 @@ ghost use Rattle.message.specs.Locations.{goodSide, emptySide, goodBound
 use crate::Bound;
 use crate::Extent;
 use crate::Location;
+use crate::MOST_POINTS;
 use crate::Side;
 use coordinates::Coordinate;
 use coordinates::Point;
@@ -42,7 +43,7 @@ pub(crate) fn none() -> Extent
     let p = no_point();
     Extent {
         location: Location::Nowhere,
-        points: [p; 7],
+        points: [p; MOST_POINTS],
     }
 }
 
@@ -80,11 +81,11 @@ fn good_bound(b: Bound) -> bool
 }
 
 // The points from a place on are all empty.
-fn empty_from(points: [Point; 7], start: usize) -> bool
+fn empty_from(points: [Point; MOST_POINTS], start: usize) -> bool
     ensures { λ r. ⌜ r ≡ allOf emptyPoint (drop start points) ⌝ }
 {
     let mut i = start;
-    while i < 7 {
+    while i < MOST_POINTS {
         if !empty_point(points[i]) {
             return false;
         }
@@ -94,7 +95,7 @@ fn empty_from(points: [Point; 7], start: usize) -> bool
 }
 
 // The first n points are all good.
-fn good_until(points: [Point; 7], n: usize) -> bool
+fn good_until(points: [Point; MOST_POINTS], n: usize) -> bool
     requires { ⌜ n ≤ 7 ⌝ }
     ensures { λ r. ⌜ r ≡ allOf goodPoint (take n points) ⌝ }
 {
@@ -109,12 +110,12 @@ fn good_until(points: [Point; 7], n: usize) -> bool
 }
 
 // The place of the first later point that is the same as the first.
-fn closing_point(points: [Point; 7]) -> usize
+fn closing_point(points: [Point; MOST_POINTS]) -> usize
     ensures { λ r. ⌜ r ≡ closingPoint points ⌝ }
 {
     let first = points[0];
     let mut i = 1;
-    while i < 7 {
+    while i < MOST_POINTS {
         if same_point(first, points[i]) {
             return i;
         }
@@ -123,13 +124,13 @@ fn closing_point(points: [Point; 7]) -> usize
     i
 }
 
-fn no_points(points: [Point; 7]) -> bool
+fn no_points(points: [Point; MOST_POINTS]) -> bool
     ensures { λ r. ⌜ r ≡ noPoints points ⌝ }
 {
     empty_from(points, 0)
 }
 
-fn good_outline(n: u8, points: [Point; 7]) -> bool
+fn good_outline(n: u8, points: [Point; MOST_POINTS]) -> bool
     ensures { λ r. ⌜ r ≡ goodOutline n points ⌝ }
 {
     if n < 4 {

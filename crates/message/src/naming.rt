@@ -6,6 +6,7 @@ ghost use Rattle.lists.specs.Choice.{both as bothOf};
 ghost use Rattle.lists.specs.Lists.{allOf};
 ghost use Rattle.names.specs.Names.{nameText};
 ghost use Rattle.message.specs.Names.{zeroByte, goodName, emptyName, noName};
+use crate::NAME_BYTES;
 use crate::Name;
 use lists::both;
 use names::name_text;
@@ -14,7 +15,7 @@ pub(crate) fn none() -> Name
     ensures { λ r. ⌜ r ≡ noName ⌝ }
 {
     Name {
-        bytes: [0; 50],
+        bytes: [0; NAME_BYTES],
         count: 0,
     }
 }
