@@ -81,7 +81,7 @@ wordsOf r = headingWords (r .heading) ++ (lineWords (r .line) ++ bodyWords r)
 
 -- CR LF
 abbrev pub newLine : List ℕ
-newLine = 13 ∷ 10 ∷ []
+newLine = bytes "\r\n"
 
 -- the canonical text
 unfoldable pub textOf : Record → List ℕ

@@ -1,6 +1,7 @@
 -- 01, "From bytes to words": the bytes that a bulletin is made of.
 -- Assumes nothing.
 use mathlib.Core.Bool.{Bool, not}
+use Prim.Native.Char.{code}
 use Prim.Native.Nat.{ℕ}
 use lib.Dec.{leb, eqb}
 use Rattle.lists.specs.Choice.{both, either}
@@ -11,15 +12,15 @@ between a b x = both (leb a x) (leb x b)
 
 -- A-Z
 abbrev pub letter : ℕ → Bool
-letter x = between 65 90 x
+letter x = between (code "A") (code "Z") x
 
 -- 0-9
 abbrev pub digit : ℕ → Bool
-digit x = between 48 57 x
+digit x = between (code "0") (code "9") x
 
 -- space, CR and LF
 abbrev pub blank : ℕ → Bool
-blank x = either (eqb x 32) (either (eqb x 13) (eqb x 10))
+blank x = either (eqb x (code " ")) (either (eqb x (code "\r")) (eqb x (code "\n")))
 
 -- what is no blank
 abbrev pub solid : ℕ → Bool
@@ -27,15 +28,15 @@ solid x = not (blank x)
 
 -- `/ - . ,`
 abbrev pub stroke : ℕ → Bool
-stroke x = either (eqb x 47) (either (eqb x 45) (either (eqb x 46) (eqb x 44)))
+stroke x = either (eqb x (code "/")) (either (eqb x (code "-")) (either (eqb x (code ".")) (eqb x (code ","))))
 
 -- `( )`
 abbrev pub bracket : ℕ → Bool
-bracket x = either (eqb x 40) (eqb x 41)
+bracket x = either (eqb x (code "(")) (eqb x (code ")"))
 
 -- `=`
 abbrev pub equals : ℕ → Bool
-equals x = eqb x 61
+equals x = eqb x (code "=")
 
 -- "A-Z, 0-9, space, CR, LF and `/ - . , ( ) =`"
 unfoldable pub allowed : ℕ → Bool

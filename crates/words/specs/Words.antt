@@ -3,6 +3,7 @@
 -- Assumes nothing.
 use mathlib.Core.Bool.{Bool}
 use mathlib.Core.List.{List, [], _∷_, _++_, map}
+use Prim.Native.Char.{code}
 use Prim.Native.Nat.{ℕ, suc, _-_}
 use lib.Dec.{ltb}
 use lib.ListN.{length, drop}
@@ -57,4 +58,4 @@ plainWord w = runOf plain w
 unfoldable pub line : List (List ℕ) → List ℕ
 line [] = []
 line (w ∷ []) = w
-line (w ∷ v ∷ ws) = w ++ (32 ∷ line (v ∷ ws))
+line (w ∷ v ∷ ws) = w ++ (code " " ∷ line (v ∷ ws))
