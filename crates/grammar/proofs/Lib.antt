@@ -1,0 +1,4 @@
+pub mod Cases
+pub mod Told
+pub mod Invariant
+pub mod Moves

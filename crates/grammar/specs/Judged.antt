@@ -1,0 +1,65 @@
+-- 01, "For 4 to 12 the word is the first that, with those before it, begins no accepted message." What that says, of any list of words
+-- and without the machine: an accepted message is the words of a good record and the `=`.
+-- Assumes nothing.
+use mathlib.Core.Bool.{true}
+use mathlib.Core.List.{List, [], _∷_, _++_, map}
+use mathlib.Core.Logic.{_⊎_}
+use mathlib.Core.Path.{_≡_}
+use Prim.Native.Nat.{ℕ, _≤_}
+use Rattle.words.specs.Words.{Word}
+use Rattle.message.specs.Records.{good}
+use Rattle.message.specs.Words.{wordsOf}
+use Rattle.message.specs.declared.Record.{Record}
+use Rattle.grammar.specs.Parts.{Marked, marked, messageParts}
+
+-- the words of a message and its `=`, the word of no byte
+abbrev pub messageWords : Record → List (List ℕ)
+messageWords r = wordsOf r ++ ([] ∷ [])
+
+abbrev pub bytesOf : List Word → List (List ℕ)
+bytesOf ws = map (λ (w : Word). w .bytes) ws
+
+-- these words are an accepted message
+pub record Whole (ws : List (List ℕ)) : Type 0 where
+  pub message : Record
+  pub isGood : good message ≡ true
+  pub words : ws ≡ messageWords message
+
+-- these words begin an accepted message
+pub record Begins (ws : List (List ℕ)) : Type 0 where
+  pub message : Record
+  pub isGood : good message ≡ true
+  pub rest : List (List ℕ)
+  pub words : ws ++ rest ≡ messageWords message
+
+-- after these words, a word of that part comes in some accepted message
+pub record ComesNext (ws : List (List ℕ)) (part : ℕ) : Type 0 where
+  pub message : Record
+  pub isGood : good message ≡ true
+  pub before : List Marked
+  pub word : List ℕ
+  pub rest : List Marked
+  pub parts : before ++ (marked part word ∷ rest) ≡ messageParts message
+  pub words : map (λ (m : Marked). m .word) before ≡ ws
+
+-- "Where a word stands after something optional and is not that thing, it is judged as the next required part. 12 goes before 4 to 11.":
+-- of the parts that may come next, what is optional belongs to the part under way and the required one has the greatest number
+pub record JudgedAs (ws : List (List ℕ)) (part : ℕ) : Type 0 where
+  pub comes : ComesNext ws part
+  pub greatest : (other : ℕ) → ComesNext ws other → other ≤ part
+
+-- the number of a word refused after these words: that of its part; 3 is for "something after" the `=`
+abbrev pub Numbered : List (List ℕ) → ℕ → Type 0
+Numbered ws number = JudgedAs ws number ⊎ (Whole ws × (number ≡ 3))
+
+-- "refused by the number and the place that the paper fixes": the word at that place is the first that, with those before it, begins no
+-- accepted message
+pub record RefusedAt (ws : List Word) (number place : ℕ) : Type 0 where
+  pub before : List Word
+  pub word : Word
+  pub rest : List Word
+  pub split : ws ≡ before ++ (word ∷ rest)
+  pub there : word .place ≡ place
+  pub begins : Begins (bytesOf before)
+  pub ends : Begins (bytesOf before ++ (word .bytes ∷ [])) → ⊥
+  pub numbered : Numbered (bytesOf before) number

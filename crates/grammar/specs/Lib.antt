@@ -1,0 +1,10 @@
+pub mod States
+pub mod Records
+pub mod Placing
+pub mod Steps
+pub mod Numbers
+pub mod Runs
+pub mod Reads
+pub mod Cases
+pub mod Parts
+pub mod Judged
