@@ -2,3 +2,4 @@ pub mod Cases
 pub mod Told
 pub mod Invariant
 pub mod Moves
+pub mod NumberLaws

@@ -8,3 +8,5 @@ pub mod Reads
 pub mod Cases
 pub mod Parts
 pub mod Judged
+pub mod Writes
+pub mod Layout

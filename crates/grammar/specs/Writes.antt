@@ -1,0 +1,30 @@
+-- 01, "Writer: 13 bad record; 24 text over 2,048 bytes; 14 buffer shorter than what would be written. Count 0, buffer untouched."
+-- Assumes nothing.
+use mathlib.Core.Bool.{not}
+use mathlib.Core.List.{List, _++_}
+use Prim.Native.Nat.{ℕ}
+use lib.Dec.{ltb}
+use lib.ListN.{length, drop}
+use Rattle.lists.specs.Choice.{pick}
+use Rattle.message.specs.Records.{good}
+use Rattle.message.specs.Words.{textOf}
+use Rattle.message.specs.declared.Record.{Record}
+
+-- the refusal number, 0 for none, the count written, and the buffer as it is afterwards
+pub record Wrote : Type 0 where
+  pub number : ℕ
+  pub count : ℕ
+  pub buffer : List ℕ
+
+abbrev pub unwritten : ℕ → List ℕ → Wrote
+unwritten number buffer = record { number = number; count = 0; buffer = buffer }
+
+-- "On success of writer or listing the bytes past the count stay."
+abbrev pub written : List ℕ → List ℕ → Wrote
+written text buffer = record { number = 0; count = length text; buffer = text ++ drop (length text) buffer }
+
+unfoldable pub writeOf : Record → List ℕ → Wrote
+writeOf r buffer =
+    pick (not (good r)) (unwritten 13 buffer)
+    (pick (ltb 2048 (length (textOf r))) (unwritten 24 buffer)
+    (pick (ltb (length buffer) (length (textOf r))) (unwritten 14 buffer) (written (textOf r) buffer)))
