@@ -3,3 +3,7 @@ pub mod Told
 pub mod Invariant
 pub mod Moves
 pub mod NumberLaws
+pub mod Marks
+pub mod RunLaws
+pub mod PartLaws
+pub mod FirstDead
