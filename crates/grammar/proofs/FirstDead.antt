@@ -46,150 +46,149 @@ length-map f (x ∷ xs) = ap suc (length-map f xs)
 
 -- facts of the section laws: what each word owes, that every state is live, and that the words of a good record are accepted
 module _
-  (sound : (s : State) (w : List ℕ) → Ok s → Fine s w (step s w))
-  (next : (s : State) → Ok s → Next s)
-  (forth : (r : Record) → good r ≡ true → walk (start) (messageWords r) ≡ done r)
+    (sound : (s : State) (w : List ℕ) → Ok s → Fine s w (step s w))
+    (next : (s : State) → Ok s → Next s)
+    (forth : (r : Record) → good r ≡ true → walk (start) (messageWords r) ≡ done r)
   where
+    -- where a walk is in a state, that state is sound
+    reached : (ws : List (List ℕ)) (s : State) → walk start ws ≡ goes s → Ok s
+    reached ws s e = kept-ok (rw e at (start-kept sound ws))
 
-  -- where a walk is in a state, that state is sound
-  reached : (ws : List (List ℕ)) (s : State) → walk start ws ≡ goes s → Ok s
-  reached ws s e = kept-ok (rw e at (start-kept sound ws))
+    -- Begins: the walk is alive.
 
-  -- Begins: the walk is alive.
+    pub begun-alive : (ws : List (List ℕ)) (m : Move) → walk (start) ws ≡ m → Begins ws → Alive m
+    begun-alive ws (goes s) e b = going
+    begun-alive ws (done r) e b = over
+    begun-alive ws dead e b =
+        let f : walk (start) (ws ++ b .rest) ≡ done (b .message) = rw (b .words) (forth (b .message) (b .isGood)) in
+        absurd (dead-done (b .message) (sym f ∙ (walk-append (start) ws (b .rest) ∙ rw e (walk-dead (b .rest)))))
 
-  begun-alive : (ws : List (List ℕ)) (m : Move) → walk (start) ws ≡ m → Begins ws → Alive m
-  begun-alive ws (goes s) e b = going
-  begun-alive ws (done r) e b = over
-  begun-alive ws dead e b =
-      let f : walk (start) (ws ++ b .rest) ≡ done (b .message) = rw (b .words) (forth (b .message) (b .isGood)) in
-      absurd (dead-done (b .message) (sym f ∙ (walk-append (start) ws (b .rest) ∙ rw e (walk-dead (b .rest)))))
+    -- the words of a walk that comes to an end, given a part of them
+    begins-by : (ws rest : List (List ℕ)) (r : Record) → walk (start) (ws ++ rest) ≡ done r → Begins ws
+    begins-by ws rest r e =
+        record { message = r; isGood = accepted-good sound (ws ++ rest) r e; rest = rest; words = accepted-words sound (ws ++ rest) r e }
 
-  -- the words of a walk that comes to an end, given a part of them
-  begins-by : (ws rest : List (List ℕ)) (r : Record) → walk (start) (ws ++ rest) ≡ done r → Begins ws
-  begins-by ws rest r e =
-      record { message = r; isGood = accepted-good sound (ws ++ rest) r e; rest = rest; words = accepted-words sound (ws ++ rest) r e }
+    -- the words that lead on from a state
+    leads-on : (ws : List (List ℕ)) (s : State) → walk (start) ws ≡ goes s → (n : Next s) → walk (start) (ws ++ (n .word ∷ n .rest)) ≡ done (n .message)
+    unfolding walk
+    leads-on ws s e n = walk-append (start) ws (n .word ∷ n .rest) ∙ rw e (n .ends)
 
-  -- the words that lead on from a state
-  leads-on : (ws : List (List ℕ)) (s : State) → walk (start) ws ≡ goes s → (n : Next s) → walk (start) (ws ++ (n .word ∷ n .rest)) ≡ done (n .message)
-  unfolding walk
-  leads-on ws s e n = walk-append (start) ws (n .word ∷ n .rest) ∙ rw e (n .ends)
+    append-nil : (ws : List (List ℕ)) → ws ++ [] ≡ ws
+    append-nil [] = refl
+    append-nil (w ∷ ws) = ap (λ (r : List (List ℕ)). w ∷ r) (append-nil ws)
 
-  append-nil : (ws : List (List ℕ)) → ws ++ [] ≡ ws
-  append-nil [] = refl
-  append-nil (w ∷ ws) = ap (λ (r : List (List ℕ)). w ∷ r) (append-nil ws)
+    alive-begins : (ws : List (List ℕ)) (m : Move) → walk (start) ws ≡ m → Alive m → Begins ws
+    alive-begins ws (goes s) e a =
+        let n : Next s = next s (reached ws s e) in
+        begins-by ws (n .word ∷ n .rest) (n .message) (leads-on ws s e n)
+    alive-begins ws (done r) e a = begins-by ws [] r (rw (append-nil ws) e)
 
-  alive-begins : (ws : List (List ℕ)) (m : Move) → walk (start) ws ≡ m → Alive m → Begins ws
-  alive-begins ws (goes s) e a =
-      let n : Next s = next s (reached ws s e) in
-      begins-by ws (n .word ∷ n .rest) (n .message) (leads-on ws s e n)
-  alive-begins ws (done r) e a = begins-by ws [] r (rw (append-nil ws) e)
+    -- with a word that kills the walk they begin no message, and with any other they do
+    walk-one-more : (ws : List (List ℕ)) (w : List ℕ) → walk (start) (ws ++ (w ∷ [])) ≡ advance (walk (start) ws) w
+    unfolding walk
+    walk-one-more ws w = walk-append (start) ws (w ∷ [])
 
-  -- with a word that kills the walk they begin no message, and with any other they do
-  walk-one-more : (ws : List (List ℕ)) (w : List ℕ) → walk (start) (ws ++ (w ∷ [])) ≡ advance (walk (start) ws) w
-  unfolding walk
-  walk-one-more ws w = walk-append (start) ws (w ∷ [])
+    killed : (ws : List (List ℕ)) (w : List ℕ) → advance (walk (start) ws) w ≡ dead → Begins (ws ++ (w ∷ [])) → ⊥
+    killed ws w d b = dead-not dead refl (begun-alive (ws ++ (w ∷ [])) dead (walk-one-more ws w ∙ d) b)
 
-  killed : (ws : List (List ℕ)) (w : List ℕ) → advance (walk (start) ws) w ≡ dead → Begins (ws ++ (w ∷ [])) → ⊥
-  killed ws w d b = dead-not dead refl (begun-alive (ws ++ (w ∷ [])) dead (walk-one-more ws w ∙ d) b)
+    kills : (ws : List (List ℕ)) (w : List ℕ) (m : Move) → advance (walk (start) ws) w ≡ m → (Begins (ws ++ (w ∷ [])) → ⊥) → m ≡ dead
+    kills ws w (goes s) e f = absurd (f (alive-begins (ws ++ (w ∷ [])) (goes s) (walk-one-more ws w ∙ e) going))
+    kills ws w (done r) e f = absurd (f (alive-begins (ws ++ (w ∷ [])) (done r) (walk-one-more ws w ∙ e) over))
+    kills ws w dead e f = refl
 
-  kills : (ws : List (List ℕ)) (w : List ℕ) (m : Move) → advance (walk (start) ws) w ≡ m → (Begins (ws ++ (w ∷ [])) → ⊥) → m ≡ dead
-  kills ws w (goes s) e f = absurd (f (alive-begins (ws ++ (w ∷ [])) (goes s) (walk-one-more ws w ∙ e) going))
-  kills ws w (done r) e f = absurd (f (alive-begins (ws ++ (w ∷ [])) (done r) (walk-one-more ws w ∙ e) over))
-  kills ws w dead e f = refl
+    -- The number.
 
-  -- The number.
+    -- what comes next after these words is a word that the state takes, with the part that the state gives it
+    comes-mark : (ws : List (List ℕ)) (n : ℕ) (c : ComesNext ws n) → marked n (c .word) ≡ markAt (walk (start) ws) (c .word)
+    unfolding marksOf
+    comes-mark ws n c =
+        let after : List (List ℕ) = unmarked (c .rest) in
+        let split : messageWords (c .message) ≡ ws ++ (c .word ∷ after) =
+        sym (message-words (c .message)) ∙ (ap unmarked (sym (c .parts)) ∙ (map-append (λ (m : Marked). m .word) (c .before) (marked n (c .word) ∷ c .rest) ∙ ap (λ (r : List (List ℕ)). r ++ (c .word ∷ after)) (c .words)))
+        in
+        let walked : walk (start) (ws ++ (c .word ∷ after)) ≡ done (c .message) = rw (← split) (forth (c .message) (c .isGood)) in
+        let marks : c .before ++ (marked n (c .word) ∷ c .rest) ≡ marksOf (start) ws ++ (markAt (walk (start) ws) (c .word) ∷ marksOf (advance (walk (start) ws) (c .word)) after) =
+        c .parts ∙ (sym (accepted-parts sound (ws ++ (c .word ∷ after)) (c .message) walked) ∙ marks-append (start) ws (c .word ∷ after))
+        in
+        let long : length (c .before) ≡ length (marksOf (start) ws) =
+        sym (length-map (λ (m : Marked). m .word) (c .before)) ∙ (ap length (c .words ∙ sym (marks-words (start) ws)) ∙ length-map (λ (m : Marked). m .word) (marksOf (start) ws))
+        in
+        same-there (c .before) (marksOf (start) ws) (marked n (c .word)) (markAt (walk (start) ws) (c .word)) (c .rest) (marksOf (advance (walk (start) ws) (c .word)) after) long marks
 
-  -- what comes next after these words is a word that the state takes, with the part that the state gives it
-  comes-mark : (ws : List (List ℕ)) (n : ℕ) (c : ComesNext ws n) → marked n (c .word) ≡ markAt (walk (start) ws) (c .word)
-  unfolding marksOf
-  comes-mark ws n c =
-      let after : List (List ℕ) = unmarked (c .rest) in
-      let split : messageWords (c .message) ≡ ws ++ (c .word ∷ after) =
-          sym (message-words (c .message)) ∙ (ap unmarked (sym (c .parts)) ∙ (map-append (λ (m : Marked). m .word) (c .before) (marked n (c .word) ∷ c .rest) ∙ ap (λ (r : List (List ℕ)). r ++ (c .word ∷ after)) (c .words)))
-      in
-      let walked : walk (start) (ws ++ (c .word ∷ after)) ≡ done (c .message) = rw (← split) (forth (c .message) (c .isGood)) in
-      let marks : c .before ++ (marked n (c .word) ∷ c .rest) ≡ marksOf (start) ws ++ (markAt (walk (start) ws) (c .word) ∷ marksOf (advance (walk (start) ws) (c .word)) after) =
-          c .parts ∙ (sym (accepted-parts sound (ws ++ (c .word ∷ after)) (c .message) walked) ∙ marks-append (start) ws (c .word ∷ after))
-      in
-      let long : length (c .before) ≡ length (marksOf (start) ws) =
-          sym (length-map (λ (m : Marked). m .word) (c .before)) ∙ (ap length (c .words ∙ sym (marks-words (start) ws)) ∙ length-map (λ (m : Marked). m .word) (marksOf (start) ws))
-      in
-      same-there (c .before) (marksOf (start) ws) (marked n (c .word)) (markAt (walk (start) ws) (c .word)) (c .rest) (marksOf (advance (walk (start) ws) (c .word)) after) long marks
+    comes-some : (ws : List (List ℕ)) (s : State) → walk start ws ≡ goes s → ComesNext ws (numberOf s)
+    unfolding marksOf
+    comes-some ws s e =
+        let n : Next s = next s (reached ws s e) in
+        let walked : walk start (ws ++ (n .word ∷ n .rest)) ≡ done (n .message) = leads-on ws s e n in
+        let there : markAt (walk start ws) (n .word) ≡ marked (numberOf s) (n .word) = rw e (ap (λ (k : ℕ). marked k (n .word)) (n .part)) in
+        record {
+          message = n .message;
+          isGood = accepted-good sound (ws ++ (n .word ∷ n .rest)) (n .message) walked;
+          before = marksOf start ws;
+          word = n .word;
+          rest = marksOf (advance (walk start ws) (n .word)) (n .rest);
+          parts = ap (λ (m : Marked). marksOf start ws ++ (m ∷ marksOf (advance (walk start ws) (n .word)) (n .rest))) (sym there) ∙ (sym (marks-append start ws (n .word ∷ n .rest)) ∙ accepted-parts sound (ws ++ (n .word ∷ n .rest)) (n .message) walked);
+          words = marks-words start ws;
+        }
 
-  comes-some : (ws : List (List ℕ)) (s : State) → walk start ws ≡ goes s → ComesNext ws (numberOf s)
-  unfolding marksOf
-  comes-some ws s e =
-      let n : Next s = next s (reached ws s e) in
-      let walked : walk start (ws ++ (n .word ∷ n .rest)) ≡ done (n .message) = leads-on ws s e n in
-      let there : markAt (walk start ws) (n .word) ≡ marked (numberOf s) (n .word) = rw e (ap (λ (k : ℕ). marked k (n .word)) (n .part)) in
-      record {
-        message = n .message;
-        isGood = accepted-good sound (ws ++ (n .word ∷ n .rest)) (n .message) walked;
-        before = marksOf start ws;
-        word = n .word;
-        rest = marksOf (advance (walk start ws) (n .word)) (n .rest);
-        parts = ap (λ (m : Marked). marksOf start ws ++ (m ∷ marksOf (advance (walk start ws) (n .word)) (n .rest))) (sym there) ∙ (sym (marks-append start ws (n .word ∷ n .rest)) ∙ accepted-parts sound (ws ++ (n .word ∷ n .rest)) (n .message) walked);
-        words = marks-words start ws;
-      }
+    -- in a state, the number is that of the greatest part that may come next
+    pub judged : (ws : List (List ℕ)) (s : State) → walk start ws ≡ goes s → JudgedAs ws (numberOf s)
+    judged ws s e = record {
+      comes = comes-some ws s e;
+      greatest = λ n c.
+          let there : marked n (c .word) ≡ marked (mark s (c .word)) (c .word) = comes-mark ws n c ∙ rw e in
+          rw (ap (λ (m : Marked). m .number) there) (mark-most s (c .word));
+    }
 
-  -- in a state, the number is that of the greatest part that may come next
-  pub judged : (ws : List (List ℕ)) (s : State) → walk start ws ≡ goes s → JudgedAs ws (numberOf s)
-  judged ws s e = record {
-    comes = comes-some ws s e;
-    greatest = λ n c.
-        let there : marked n (c .word) ≡ marked (mark s (c .word)) (c .word) = comes-mark ws n c ∙ rw e in
-        rw (ap (λ (m : Marked). m .number) there) (mark-most s (c .word));
-  }
+    numbered-by : (ws : List (List ℕ)) (m : Move) → walk start ws ≡ m → Alive m → Numbered ws (moveNumber m)
+    numbered-by ws (goes s) e a = inl (judged ws s e)
+    numbered-by ws (done r) e a = inr (record { message = r; isGood = accepted-good sound ws r e; words = accepted-words sound ws r e }, refl)
 
-  numbered-by : (ws : List (List ℕ)) (m : Move) → walk start ws ≡ m → Alive m → Numbered ws (moveNumber m)
-  numbered-by ws (goes s) e a = inl (judged ws s e)
-  numbered-by ws (done r) e a = inr (record { message = r; isGood = accepted-good sound ws r e; words = accepted-words sound ws r e }, refl)
+    -- Theorems c and d: a run is refused at the first word that, with those before it, begins no accepted message, by the number of the part
+    -- that the word is judged as.
+    pub refused-there : (ws : List Word) (n p : ℕ) → run atDesignator ws ≡ refused n p → RefusedAt ws n p
+    refused-there ws n p e =
+        let b : Breaks atDesignator ws n p = run-breaks atDesignator ws n p e in
+        record {
+          before = b .before;
+          word = b .word;
+          rest = b .rest;
+          split = b .split;
+          there = b .there;
+          begins = alive-begins (bytesOf (b .before)) (walk start (bytesOf (b .before))) refl (b .alive);
+          ends = killed (bytesOf (b .before)) (b .word .bytes) (b .dies);
+          numbered = subst (λ (k : ℕ). Numbered (bytesOf (b .before)) k) (sym (b .numbered)) (numbered-by (bytesOf (b .before)) (walk start (bytesOf (b .before))) refl (b .alive));
+        }
 
-  -- Theorems c and d: a run is refused at the first word that, with those before it, begins no accepted message, by the number of the part
-  -- that the word is judged as.
-  pub refused-there : (ws : List Word) (n p : ℕ) → run atDesignator ws ≡ refused n p → RefusedAt ws n p
-  refused-there ws n p e =
-      let b : Breaks atDesignator ws n p = run-breaks atDesignator ws n p e in
-      record {
-        before = b .before;
-        word = b .word;
-        rest = b .rest;
-        split = b .split;
-        there = b .there;
-        begins = alive-begins (bytesOf (b .before)) (walk start (bytesOf (b .before))) refl (b .alive);
-        ends = killed (bytesOf (b .before)) (b .word .bytes) (b .dies);
-        numbered = subst (λ (k : ℕ). Numbered (bytesOf (b .before)) k) (sym (b .numbered)) (numbered-by (bytesOf (b .before)) (walk start (bytesOf (b .before))) refl (b .alive));
-      }
+    -- a whole message's walk has ended, and nothing comes after it
+    pub whole-done : (ws : List (List ℕ)) (c : Whole ws) → walk start ws ≡ done (c .message)
+    whole-done ws c = ap (walk start) (c .words) ∙ forth (c .message) (c .isGood)
 
-  -- a whole message's walk has ended, and nothing comes after it
-  whole-done : (ws : List (List ℕ)) (c : Whole ws) → walk start ws ≡ done (c .message)
-  whole-done ws c = ap (walk start) (c .words) ∙ forth (c .message) (c .isGood)
+    -- the words after which a word comes are in a state
+    comes-going : (ws : List (List ℕ)) (n : ℕ) → ComesNext ws n → (r : Record) → walk start ws ≡ done r → ⊥
+    comes-going ws n c r e =
+        let none : marked n (c .word) ≡ marked 0 (c .word) = comes-mark ws n c ∙ rw e in
+        let zero-part : n ≡ 0 = ap (λ (m : Marked). m .number) none in
+        part-not-zero (c .message) (c .before) (c .word) (c .rest) (rw zero-part at (c .parts))
 
-  -- the words after which a word comes are in a state
-  comes-going : (ws : List (List ℕ)) (n : ℕ) → ComesNext ws n → (r : Record) → walk start ws ≡ done r → ⊥
-  comes-going ws n c r e =
-      let none : marked n (c .word) ≡ marked 0 (c .word) = comes-mark ws n c ∙ rw e in
-      let zero-part : n ≡ 0 = ap (λ (m : Marked). m .number) none in
-      part-not-zero (c .message) (c .before) (c .word) (c .rest) (rw zero-part at (c .parts))
+    pub numbers-one : (ws : List (List ℕ)) (n : ℕ) (m : Move) → walk start ws ≡ m → Alive m → Numbered ws n → n ≡ moveNumber m
+    numbers-one ws n (goes s) e a (inl j) =
+        let k : JudgedAs ws (numberOf s) = judged ws s e in
+        let up : n ≤ numberOf s = k .greatest n (j .comes) in
+        let down : numberOf s ≤ n = j .greatest (numberOf s) (k .comes) in
+        omega arith
+    numbers-one ws n (goes s) e a (inr w) = absurd (done-not-goes (sym e ∙ whole-done ws (w .0)))
+    numbers-one ws n (done r) e a (inl j) = absurd (comes-going ws n (j .comes) r e)
+    numbers-one ws n (done r) e a (inr w) = w .1
 
-  numbers-one : (ws : List (List ℕ)) (n : ℕ) (m : Move) → walk start ws ≡ m → Alive m → Numbered ws n → n ≡ moveNumber m
-  numbers-one ws n (goes s) e a (inl j) =
-      let k : JudgedAs ws (numberOf s) = judged ws s e in
-      let up : n ≤ numberOf s = k .greatest n (j .comes) in
-      let down : numberOf s ≤ n = j .greatest (numberOf s) (k .comes) in
-      omega arith
-  numbers-one ws n (goes s) e a (inr w) = absurd (done-not-goes (sym e ∙ whole-done ws (w .0)))
-  numbers-one ws n (done r) e a (inl j) = absurd (comes-going ws n (j .comes) r e)
-  numbers-one ws n (done r) e a (inr w) = w .1
+    -- the converse: wherever a word is the first such, the run is refused there by that number
+    pub there-refused : (ws : List Word) (n p : ℕ) → RefusedAt ws n p → run atDesignator ws ≡ refused n p
+    there-refused ws n p r =
+        let before : List (List ℕ) = bytesOf (r .before) in
+        let alive : Alive (walk start before) = begun-alive before (walk start before) refl (r .begins) in
+        let dies : advance (walk start before) (r .word .bytes) ≡ dead = kills before (r .word .bytes) (advance (walk start before) (r .word .bytes)) refl (r .ends) in
+        let number : n ≡ moveNumber (walk start before) = numbers-one before n (walk start before) refl alive (r .numbered) in
+        rw (r .split, number, ← (r .there)) (breaks-run atDesignator (r .before) (r .word) (r .rest) alive dies)
 
-  -- the converse: wherever a word is the first such, the run is refused there by that number
-  pub there-refused : (ws : List Word) (n p : ℕ) → RefusedAt ws n p → run atDesignator ws ≡ refused n p
-  there-refused ws n p r =
-      let before : List (List ℕ) = bytesOf (r .before) in
-      let alive : Alive (walk start before) = begun-alive before (walk start before) refl (r .begins) in
-      let dies : advance (walk start before) (r .word .bytes) ≡ dead = kills before (r .word .bytes) (advance (walk start before) (r .word .bytes)) refl (r .ends) in
-      let number : n ≡ moveNumber (walk start before) = numbers-one before n (walk start before) refl alive (r .numbered) in
-      rw (r .split, number, ← (r .there)) (breaks-run atDesignator (r .before) (r .word) (r .rest) alive dies)
-
-  pub refused-exactly : (ws : List Word) (n p : ℕ) → (run atDesignator ws ≡ refused n p) ↔ RefusedAt ws n p
-  refused-exactly ws n p = (refused-there ws n p, there-refused ws n p)
+    pub refused-exactly : (ws : List Word) (n p : ℕ) → (run atDesignator ws ≡ refused n p) ↔ RefusedAt ws n p
+    refused-exactly ws n p = (refused-there ws n p, there-refused ws n p)

@@ -7,3 +7,5 @@ pub mod Marks
 pub mod RunLaws
 pub mod PartLaws
 pub mod FirstDead
+pub mod Replies
+pub mod Twelve

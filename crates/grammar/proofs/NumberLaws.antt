@@ -192,7 +192,7 @@ mark-most (atForecastTime l i) w = lit< tt
 mark-most (atEnd r) w = lit< tt
 
 -- the `=` ends a message or is refused
-pub Stops : Move → Type 0
+abbrev pub Stops : Move → Type 0
 Stops (goes s) = ⊥
 Stops (done r) = Unit {0}
 Stops dead = Unit {0}
@@ -208,7 +208,7 @@ test-word n read b h =
     not-true (same [] (getD (testText n) read [])) (all-at (λ (k : List ℕ). not (same [] k)) (testText n) [] text read h)
 
 pub end-stops : (s : State) → Ok s → Stops (step s [])
-unfolding step locating placeStep stepForm stepLevel stepEnding indexOf allOf same worthAfter places figuresOf lettersOf goodLetters coordinateOf goodCoordinate groupOf goodGroup periodOf goodPeriod timeOf goodTime typeWords designatorOf goodDesignator correctionOf goodCorrection officeOf sequenceOf goodSequence closingWords nameWord levelOf goodLevelWord compassWords intensityWords unitWords speedOf goodSpeed stormWords cancels Stops
+unfolding step locating placeStep stepForm stepLevel stepEnding indexOf allOf same worthAfter places figuresOf lettersOf goodLetters coordinateOf goodCoordinate groupOf goodGroup periodOf goodPeriod timeOf goodTime typeWords designatorOf goodDesignator correctionOf goodCorrection officeOf sequenceOf goodSequence closingWords nameWord levelOf goodLevelWord compassWords intensityWords unitWords speedOf goodSpeed stormWords cancels
 end-stops atDesignator ok = tt
 end-stops (atCentre d) ok = tt
 end-stops (atSent d c) ok = tt

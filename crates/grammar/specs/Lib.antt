@@ -8,5 +8,6 @@ pub mod Reads
 pub mod Cases
 pub mod Parts
 pub mod Judged
+pub mod Replies
 pub mod Writes
 pub mod Layout

@@ -1,0 +1,96 @@
+-- Theorem d, its first half: 12 exactly where the words before also make an accepted message with the `=`.
+-- Assumes nothing.
+use mathlib.Core.Bool.{true}
+use mathlib.Core.List.{List, [], _∷_, _++_}
+use mathlib.Core.Logic.{_⊎_, _↔_}
+use mathlib.Core.Logic._⊎_.{inl, inr}
+use mathlib.Core.Path.{_≡_, refl, ap, sym, subst, _∙_}
+use Prim.Native.Nat.{ℕ, _≤_}
+use native.Mathlib.Omega.{arith}
+use Rattle.words.specs.Words.{Word}
+use Rattle.message.specs.Records.{good}
+use Rattle.message.specs.Words.{wordsOf}
+use Rattle.message.specs.declared.Record.{Record}
+use Rattle.grammar.specs.Judged.{messageWords, bytesOf, Whole, ComesNext, JudgedAs, Numbered, RefusedAt}
+use Rattle.grammar.specs.Numbers.{numberOf}
+use Rattle.grammar.specs.Parts.{Marked, marked, partsOf, messageParts}
+use Rattle.grammar.specs.Runs.{advance, walk}
+use Rattle.grammar.specs.States.{State, Move}
+use Rattle.grammar.specs.States.Move.{goes, done, dead}
+use Rattle.grammar.specs.States.State.{atDesignator}
+use Rattle.grammar.specs.Steps.{step}
+use Rattle.grammar.proofs.Invariant.{Ok}
+use Rattle.grammar.proofs.Marks.{unmarked, parts-words, start}
+use Rattle.grammar.proofs.Moves.{Fine, Next, walk-append}
+use Rattle.grammar.proofs.NumberLaws.{number-range}
+use Rattle.grammar.proofs.PartLaws.{other-last, words-parts}
+use Rattle.grammar.proofs.RunLaws.{Alive, moveNumber, dead-done}
+use Rattle.grammar.proofs.RunLaws.Alive.{going, over}
+use Rattle.grammar.proofs.FirstDead.{begun-alive, numbers-one, whole-done}
+
+-- what is in front of a last word
+front-same : (xs ys : List (List ℕ)) (x y : List ℕ) → xs ++ (x ∷ []) ≡ ys ++ (y ∷ []) → xs ≡ ys
+front-same [] [] x y e = refl
+front-same [] (z ∷ []) x y e = absurd (let q : _≡_ {A = List (List ℕ)} [] (y ∷ []) = cc in let k : _≡_ {A = ℕ} 0 1 = cc in omega arith)
+front-same [] (z ∷ v ∷ ys) x y e = absurd (let q : _≡_ {A = List (List ℕ)} [] (v ∷ (ys ++ (y ∷ []))) = cc in let k : _≡_ {A = ℕ} 0 1 = cc in omega arith)
+front-same (z ∷ []) [] x y e = absurd (let q : _≡_ {A = List (List ℕ)} [] (x ∷ []) = cc in let k : _≡_ {A = ℕ} 0 1 = cc in omega arith)
+front-same (z ∷ v ∷ xs) [] x y e = absurd (let q : _≡_ {A = List (List ℕ)} [] (v ∷ (xs ++ (x ∷ []))) = cc in let k : _≡_ {A = ℕ} 0 1 = cc in omega arith)
+front-same (z ∷ xs) (t ∷ ys) x y e =
+    let tail : xs ++ (x ∷ []) ≡ ys ++ (y ∷ []) = cc in
+    let head : z ≡ t = cc in
+    rw (head, front-same xs ys x y tail)
+
+-- the part 12 comes next exactly after all words of a message
+pub twelve-whole : (ws : List (List ℕ)) → ComesNext ws 12 → Whole (ws ++ ([] ∷ []))
+twelve-whole ws c =
+    let last : (c .before ≡ partsOf (c .message)) × (marked 12 (c .word) ≡ marked 12 []) =
+    other-last (marked 12 (c .word)) refl (c .before) (c .rest) (partsOf (c .message)) (marked 12 []) (words-parts (c .message)) (c .parts)
+    in
+    let words : ws ≡ wordsOf (c .message) = sym (c .words) ∙ (ap unmarked (last .0) ∙ parts-words (c .message)) in
+    record { message = c .message; isGood = c .isGood; words = ap (λ (vs : List (List ℕ)). vs ++ ([] ∷ [])) words }
+
+pub whole-twelve : (ws : List (List ℕ)) → Whole (ws ++ ([] ∷ [])) → ComesNext ws 12
+whole-twelve ws w = record {
+  message = w .message;
+  isGood = w .isGood;
+  before = partsOf (w .message);
+  word = [];
+  rest = [];
+  parts = refl;
+  words = parts-words (w .message) ∙ sym (front-same ws (wordsOf (w .message)) [] [] (w .words));
+}
+
+module _
+    (sound : (s : State) (w : List ℕ) → Ok s → Fine s w (step s w))
+    (next : (s : State) → Ok s → Next s)
+    (forth : (r : Record) → good r ≡ true → walk (goes atDesignator) (messageWords r) ≡ done r)
+  where
+    twelve-to : (ws : List (List ℕ)) (n : ℕ) → Numbered ws n → n ≡ 12 → Whole (ws ++ ([] ∷ []))
+    twelve-to ws n (inl j) e = twelve-whole ws (subst (λ (k : ℕ). ComesNext ws k) e (j .comes))
+    twelve-to ws n (inr w) e = absurd (let three : n ≡ 3 = w .1 in omega arith)
+
+    -- a walk at its end takes no other `=`
+    one-end : (ws : List (List ℕ)) (r : Record) → walk start ws ≡ done r → Whole (ws ++ ([] ∷ [])) → ⊥
+    unfolding walk
+    one-end ws r e w =
+        let ended : walk start (ws ++ ([] ∷ [])) ≡ done (w .message) = whole-done sound next forth (ws ++ ([] ∷ [])) w in
+        dead-done (w .message) (sym ended ∙ (walk-append start ws ([] ∷ []) ∙ rw e))
+
+    twelve-from : (ws : List (List ℕ)) (n : ℕ) (m : Move) → walk start ws ≡ m → Alive m → Numbered ws n → Whole (ws ++ ([] ∷ [])) → n ≡ 12
+    twelve-from ws n (goes s) e a (inl j) w =
+        let same : n ≡ numberOf s = numbers-one sound next forth ws n (goes s) e going (inl j) in
+        let up : 12 ≤ n = j .greatest 12 (whole-twelve ws w) in
+        let down : numberOf s ≤ 12 = number-range s .high in
+        omega arith
+    twelve-from ws n (goes s) e a (inr x) w =
+        let same : n ≡ numberOf s = numbers-one sound next forth ws n (goes s) e going (inr x) in
+        let three : n ≡ 3 = x .1 in
+        let low : 4 ≤ numberOf s = number-range s .low in
+        absurd (omega arith)
+    twelve-from ws n (done r) e a x w = absurd (one-end ws r e w)
+
+    -- 12 "goes before 4 to 11": exactly where the `=` would also be accepted
+    pub twelve-exactly : (ws : List Word) (n p : ℕ) (r : RefusedAt ws n p) → (n ≡ 12) ↔ Whole (bytesOf (r .before) ++ ([] ∷ []))
+    twelve-exactly ws n p r =
+        let before : List (List ℕ) = bytesOf (r .before) in
+        (twelve-to before n (r .numbered), twelve-from before n (walk start before) refl (begun-alive sound next forth before (walk start before) refl (r .begins)) (r .numbered))
