@@ -5,3 +5,4 @@ pub mod Moves
 pub mod NumberLaws
 pub mod NameText
 pub mod Areas
+pub mod Ashes

@@ -4,7 +4,7 @@
 use mathlib.Core.Bool.{Bool, true, false, not}
 use mathlib.Core.List.{List, [], _∷_, _++_, append-assoc}
 use mathlib.Core.Path.{_≡_, refl, ap, sym, _∙_}
-use Prim.Native.Nat.{ℕ, zero, suc, _-_, _≤_, _<_, zero-le}
+use Prim.Native.Nat.{ℕ, zero, suc, _-_, _≤_, _<_}
 use native.Mathlib.Nat.{not-suc-le-zero, le-trans, le-refl}
 use native.Mathlib.Omega.{arith}
 use lib.Dec.{leb, eqb}
@@ -22,7 +22,7 @@ use Rattle.figures.specs.Keywords.{wordIn, inTable}
 use Rattle.names.specs.Names.{closingWords, closingOf, goodClosing, nameWord, closers, inName, pieces, nameText}
 use Rattle.names.proofs.NameLaws.{pieces-some, pieces-one, pieces-grow, line-pieces, name-some, name-one, name-grow, in-name-spaceless, pieces-plain}
 use Rattle.message.specs.Limits.{nameBytes}
-use Rattle.message.specs.Names.{zeroByte, unusedZero, goodName, emptyName, noName, nameWords}
+use Rattle.message.specs.Names.{zeroByte, unusedZero, goodName, emptyName, nameWords}
 use Rattle.message.specs.declared.Name.{Name}
 use Rattle.grammar.specs.Records.{nameOf}
 use Rattle.grammar.specs.Runs.{walk}
@@ -121,7 +121,7 @@ module _ (n : Name) (u : unusedZero n ≡ true) where
   unused-count : n .count ≤ 50 → length (take (n .count) (n .bytes)) ≡ n .count
   unused-count h = length-take-le (n .count) (n .bytes) (rw unused-long h)
 
-  unused-is : n .count ≤ 50 → n ≡ nameOf (take (n .count) (n .bytes))
+  pub unused-is : n .count ≤ 50 → n ≡ nameOf (take (n .count) (n .bytes))
   unused-is h = λ i. record { bytes = text i; count = sym (unused-count h) i }
     where
       text : n .bytes ≡ take (n .count) (n .bytes) ++ replicate (50 - length (take (n .count) (n .bytes))) 0
@@ -161,12 +161,6 @@ module _ (m : Bool) (limit : ℕ) (h : limit ≤ nameBytes) (n : Name) (g : good
 
   pub good-name-plain : allOf plainWord (nameWords n) ≡ true
   good-name-plain = pieces-plain m (take (n .count) (n .bytes)) (good-name-ok .text)
-
-pub empty-name-is : (n : Name) → emptyName n ≡ true → n ≡ noName
-unfolding emptyName
-empty-name-is n e =
-    let none : n .count ≡ 0 = eqb-true (n .count) 0 (both-left (eqb (n .count) 0) (unusedZero n) e) in
-    unused-is n (both-right (eqb (n .count) 0) (unusedZero n) e) (rw none zero-le) ∙ ap (λ (k : ℕ). nameOf (take k (n .bytes))) none
 
 -- The words of a name, from a text on.
 
