@@ -9,3 +9,6 @@ pub mod PartLaws
 pub mod FirstDead
 pub mod Replies
 pub mod Twelve
+pub mod NameText
+pub mod Areas
+pub mod Ashes
