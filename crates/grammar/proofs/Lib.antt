@@ -3,3 +3,5 @@ pub mod Told
 pub mod Invariant
 pub mod Moves
 pub mod NumberLaws
+pub mod Weather
+pub mod Forms
