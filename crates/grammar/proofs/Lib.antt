@@ -3,5 +3,6 @@ pub mod Told
 pub mod Invariant
 pub mod Moves
 pub mod NumberLaws
+pub mod Observations
 pub mod Weather
 pub mod Forms
