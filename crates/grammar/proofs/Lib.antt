@@ -12,3 +12,6 @@ pub mod Twelve
 pub mod NameText
 pub mod Areas
 pub mod Ashes
+pub mod Observations
+pub mod Weather
+pub mod Forms
