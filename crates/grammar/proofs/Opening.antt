@@ -46,7 +46,7 @@ use Rattle.grammar.proofs.Moves.{Fine, chosen, goes-if, fine-as, Next, 
 use Rattle.grammar.proofs.Moves.Fine.{leads}
 use Rattle.grammar.proofs.Told.{told}
 
-four-reads : Reads (lettersOf 4) (inLetters 4) (goodLetters 4) 0
+pub four-reads : Reads (lettersOf 4) (inLetters 4) (goodLetters 4) 0
 four-reads = letters-reads 4 (lit< tt) (lit< tt)
 
 -- a correction is no 0, which stands for none
@@ -203,7 +203,7 @@ module _ (indicator : (h : Heading) (l : FirstLine) → Ok (atIndicator h l) →
 -- Forth: the words of a good heading and first line lead through.
 
 -- a word that is read as that good value
-reads-on : {A : Type 0} {read : List ℕ → A} {spell : A → List ℕ} {good : A → Bool} {none : A} → Reads read spell good none
+pub reads-on : {A : Type 0} {read : List ℕ → A} {spell : A → List ℕ} {good : A → Bool} {none : A} → Reads read spell good none
     → (next : A → State) (v : A) → good v ≡ true → goesIf (good (read (spell v))) (next (read (spell v))) ≡ goes (next v)
 reads-on laws next v g = rw (laws .forth v g, g)
 
@@ -275,7 +275,7 @@ forth-line h l ws g k = forth-three h (lineWords l ++ ws) g ∙ forth-correction
 
 -- Plain: these words have only plain bytes.
 
-four-plain : (n : ℕ) → goodLetters 4 n ≡ true → plainWord (inLetters 4 n) ≡ true
+pub four-plain : (n : ℕ) → goodLetters 4 n ≡ true → plainWord (inLetters 4 n) ≡ true
 four-plain n g = run-plain (inLetters 4 n) (rw (length-inLetters 4 n) (lit< tt)) (inLetters-plain 4 n g)
 
 pub plain-heading : (h : Heading) → goodHeading h ≡ true → allOf plainWord (headingWords h) ≡ true
