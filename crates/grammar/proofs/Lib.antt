@@ -15,3 +15,5 @@ pub mod Ashes
 pub mod Observations
 pub mod Weather
 pub mod Forms
+pub mod Opening
+pub mod Endings
