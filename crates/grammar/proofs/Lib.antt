@@ -17,3 +17,4 @@ pub mod Weather
 pub mod Forms
 pub mod Opening
 pub mod Endings
+pub mod Forth
