@@ -18,3 +18,4 @@ pub mod Forms
 pub mod Opening
 pub mod Endings
 pub mod Forth
+pub mod Published

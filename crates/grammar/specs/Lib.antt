@@ -6,6 +6,7 @@ pub mod Numbers
 pub mod Runs
 pub mod Reads
 pub mod Cases
+pub mod Published
 pub mod Parts
 pub mod Judged
 pub mod Replies
