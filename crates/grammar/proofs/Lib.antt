@@ -19,3 +19,5 @@ pub mod Opening
 pub mod Endings
 pub mod Forth
 pub mod Published
+pub mod TextLaws
+pub mod TextCases

@@ -1,14 +1,31 @@
--- The cases of 01, "The program and the sample", that speak of reading: the sample's text with one thing changed in it.
+-- The cases of 01, "The program and the sample", that speak of reading: the sample's text with one thing changed in it. And further texts
+-- that the paper describes, with their records given field by field.
 -- Assumes nothing.
-use mathlib.Core.List.{List, _++_}
+use mathlib.Core.Bool.{true, false}
+use mathlib.Core.List.{List, [], _∷_, _++_}
 use Prim.Native.Char.{code}
 use Prim.Native.Nat.{ℕ}
 use Prim.Native.String.{String}
+use lib.ListN.{replicate}
+use Rattle.lists.specs.Base.{worth}
 use Rattle.lists.specs.Text.{bytes}
+use Rattle.coordinates.specs.Points.{noPoint}
 use Rattle.coordinates.specs.declared.Coordinate.{Coordinate}
-use Rattle.message.specs.Locations.{noSide}
-use Rattle.message.specs.Sample.{sample}
+use Rattle.coordinates.specs.declared.Point.{Point}
+use Rattle.headings.specs.declared.Sequence.{Sequence}
+use Rattle.levels.specs.declared.Level.the-variants.{Band, TopAboveFlight}
+use Rattle.message.specs.Locations.{noSide, noExtent}
+use Rattle.message.specs.Reports.{noVolcano, noReport}
+use Rattle.message.specs.Sample.{dayAndTime, sample}
 use Rattle.message.specs.Words.{newLine}
+use Rattle.message.specs.declared.Area.{Area}
+use Rattle.message.specs.declared.Ending.the-variants.{Stationary, Forecast}
+use Rattle.message.specs.declared.Extent.{Extent}
+use Rattle.message.specs.declared.FirstLine.{FirstLine}
+use Rattle.message.specs.declared.Form.the-variants.{Test, Cancellation, Reported}
+use Rattle.message.specs.declared.Heading.{Heading}
+use Rattle.message.specs.declared.Location.the-variants.{Bounded, Outline, Entire}
+use Rattle.message.specs.declared.Name.{Name}
 use Rattle.message.specs.declared.Record.{Record}
 use Rattle.grammar.specs.Records.{bounded}
 
@@ -20,9 +37,9 @@ reporting rest =
     ++ (bytes "QBBB SIGMET 1 VALID 180830/181230 QAAA-"
     ++ (newLine ++ (bytes "QBBB NORTH SOUND FIR SEV ICE FCST " ++ bytes rest))))
 
--- the sample's record with another longitude
-abbrev pub eastOf : Coordinate → Record
-eastOf c =
+-- the sample's record with another location
+abbrev pub located : Extent → Record
+located e =
     record {
       heading = sample .heading;
       line = sample .line;
@@ -33,13 +50,226 @@ eastOf c =
             phenomenon = sample .report .phenomenon;
             volcano = sample .report .volcano;
             observation = sample .report .observation;
-            extent = bounded noSide (record { of = code "E"; at = c });
+            extent = e;
             level = sample .report .level;
             ending = sample .report .ending;
             forecast = sample .report .forecast;
           };
     }
 
+-- … with another longitude
+abbrev pub eastOf : Coordinate → Record
+eastOf c = located (bounded noSide (record { of = code "E"; at = c }))
+
 -- E180
 abbrev pub E180 : Coordinate
 E180 = record { letter = code "E"; digits = 3; degrees = 180; minutes = 0 }
+
+-- a bulletin of three lines
+abbrev pub bulletin : String → String → String → List ℕ
+bulletin heading line body = bytes heading ++ (newLine ++ (bytes line ++ (newLine ++ bytes body)))
+
+-- the sample's heading and first line, and this body; so too in a WV
+abbrev pub saying : String → List ℕ
+saying body = bulletin "WSZZ31 QAAA 180830" "QBBB SIGMET 1 VALID 180830/181230 QAAA-" body
+
+abbrev pub ashSaying : String → List ℕ
+ashSaying body = bulletin "WVZZ31 QAAA 180830" "QBBB SIGMET 1 VALID 180830/181230 QAAA-" body
+
+-- sequence 2, of 181100/181230, and this body: a message that may cancel the sample
+abbrev pub laterSaying : String → List ℕ
+laterSaying body = bulletin "WSZZ31 QAAA 181100" "QBBB SIGMET 2 VALID 181100/181230 QAAA-" body
+
+-- The parts of the records, as the texts write them.
+
+abbrev pub coordinate : ℕ → ℕ → ℕ → ℕ → Coordinate
+coordinate letter digits degrees minutes = record { letter = letter; digits = digits; degrees = degrees; minutes = minutes }
+
+abbrev pub point : Coordinate → Coordinate → Point
+point latitude longitude = record { latitude = latitude; longitude = longitude }
+
+-- `WSZZ31 QAAA 180830`, or `WVZZ31 …`, with a correction or none
+abbrev pub sampleHeading : ℕ → ℕ → Heading
+sampleHeading kind correction =
+    record {
+      designator = record { kind = kind; region = worth 256 (bytes "ZZ"); number = 31 };
+      centre = worth 256 (bytes "QAAA");
+      sent = dayAndTime 18 8 30;
+      correction = correction;
+    }
+
+abbrev pub sequenceOne : Sequence
+sequenceOne = record { letter = 0; digits = 1; number = 1 }
+
+-- `QBBB SIGMET 1 VALID 180830/181230 QAAA-`, with this sequence
+abbrev pub sampleLine : Sequence → FirstLine
+sampleLine s =
+    record {
+      unit = worth 256 (bytes "QBBB");
+      sequence = s;
+      valid = record { from = dayAndTime 18 8 30; to = dayAndTime 18 12 30 };
+      office = worth 256 (bytes "QAAA");
+    }
+
+-- `NORTH SOUND`: 11 characters
+abbrev pub northSound : Name
+northSound = record { bytes = bytes "NORTH SOUND" ++ replicate 39 0; count = 11 }
+
+-- `QBBB NORTH SOUND FIR`, or with another closing word
+abbrev pub sampleArea : ℕ → Area
+sampleArea closing = record { indicator = worth 256 (bytes "QBBB"); name = northSound; closing = closing }
+
+-- an outline in whole degrees north and east
+abbrev pub northEast : ℕ → ℕ → Point
+northEast north east = point (coordinate (code "N") 2 north 0) (coordinate (code "E") 3 east 0)
+
+-- four points, the last equal to the first on the other side of the meridian of 180 degrees; and seven points
+abbrev pub meridianOutline : Extent
+meridianOutline =
+    record {
+      location = Outline 4;
+      points =
+          northEast 10 180
+          ∷ northEast 11 180
+          ∷ northEast 11 179
+          ∷ point (coordinate (code "N") 2 10 0) (coordinate (code "W") 5 180 0)
+          ∷ noPoint
+          ∷ noPoint
+          ∷ noPoint
+          ∷ [];
+    }
+
+abbrev pub sevenOutline : Extent
+sevenOutline =
+    record {
+      location = Outline 7;
+      points =
+          northEast 10 10
+          ∷ northEast 11 10
+          ∷ northEast 12 10
+          ∷ northEast 13 10
+          ∷ northEast 14 10
+          ∷ northEast 15 10
+          ∷ northEast 10 10
+          ∷ [];
+    }
+
+-- a name of 50 characters
+abbrev pub fiftyName : Name
+fiftyName = record { bytes = bytes "ABCDEFGHI ABCDEFGHI ABCDEFGHI ABCDEFGHI ABCDEFGHIJ"; count = 50 }
+
+-- "a test: `TEST`, or `TEST SIGMET PLEASE DISREGARD`, or `TEST. THIS IS A TEST SIGMET, PLEASE DISREGARD`": the n-th, in the sample's place
+abbrev pub testing : ℕ → Record
+testing n =
+    record { heading = sampleHeading 2 0; line = sampleLine sequenceOne; area = sampleArea 1; form = Test n; report = noReport }
+
+-- the first test, in an area with a name of 50 characters
+abbrev pub testingFifty : Record
+testingFifty =
+    record {
+      heading = sampleHeading 2 0;
+      line = sampleLine sequenceOne;
+      area = record { indicator = worth 256 (bytes "QBBB"); name = fiftyName; closing = 1 };
+      form = Test 1;
+      report = noReport;
+    }
+
+-- "Sequence 2, VALID 181100/181230, `CNL SIGMET 1 180830/181230`"
+abbrev pub cancelling : Record
+cancelling =
+    record {
+      heading =
+          record {
+            designator = record { kind = 2; region = worth 256 (bytes "ZZ"); number = 31 };
+            centre = worth 256 (bytes "QAAA");
+            sent = dayAndTime 18 11 0;
+            correction = 0;
+          };
+      line =
+          record {
+            unit = worth 256 (bytes "QBBB");
+            sequence = record { letter = 0; digits = 1; number = 2 };
+            valid = record { from = dayAndTime 18 11 0; to = dayAndTime 18 12 30 };
+            office = worth 256 (bytes "QAAA");
+          };
+      area = sampleArea 1;
+      form = Cancellation sequenceOne (dayAndTime 18 8 30);
+      report = noReport;
+    }
+
+-- "WV: …, or `VA ERUPTION`, perhaps `MT` and a name (…), `PSN`, a point, `VA CLD`"; an outline whose last point is equal to its first and is
+-- written otherwise; "`TOP ABV FLnnn`"; "or `STNR`, then …". Sequence A2.
+abbrev pub eruptionText : List ℕ
+eruptionText =
+    bulletin "WVZZ31 QAAA 180830" "QBBB SIGMET A2 VALID 180830/181230 QAAA-"
+    "QBBB NORTH SOUND FIR VA ERUPTION MT SAINT-ELM PEAK PSN N5412 W01030 VA CLD OBS WI N00 E010 - N01 E010 - N01 E011 - S0000 E01000 TOP ABV FL350 STNR NC="
+
+abbrev pub eruptionRecord : Record
+eruptionRecord =
+    record {
+      heading = sampleHeading 3 0;
+      line = sampleLine (record { letter = code "A"; digits = 1; number = 2 });
+      area = sampleArea 1;
+      form = Reported;
+      report =
+          record {
+            phenomenon = 17;
+            volcano =
+                record {
+                  name = record { bytes = bytes "SAINT-ELM PEAK" ++ replicate 36 0; count = 14 };
+                  position = point (coordinate (code "N") 4 54 12) (coordinate (code "W") 5 10 30);
+                };
+            observation = record { word = 1; timed = false; time = record { hour = 0; minute = 0 } };
+            extent =
+                record {
+                  location = Outline 4;
+                  points =
+                      point (coordinate (code "N") 2 0 0) (coordinate (code "E") 3 10 0)
+                      ∷ point (coordinate (code "N") 2 1 0) (coordinate (code "E") 3 10 0)
+                      ∷ point (coordinate (code "N") 2 1 0) (coordinate (code "E") 3 11 0)
+                      ∷ point (coordinate (code "S") 4 0 0) (coordinate (code "E") 5 10 0)
+                      ∷ noPoint
+                      ∷ noPoint
+                      ∷ noPoint
+                      ∷ [];
+                };
+            level = TopAboveFlight 350;
+            ending = Stationary 3;
+            forecast = noExtent;
+          };
+    }
+
+-- a correction; "`FIR/UIR`"; "`OBS` or `FCST`, perhaps `AT GGggZ`"; "`ENTIRE FIR`"; "`FLnnn/nnn`"; "the intensity word first and then
+-- `FCST AT GGggZ` and a location"; "a latitude bound, `AND`, a longitude bound"
+abbrev pub correctedText : List ℕ
+correctedText =
+    bulletin "WSZZ31 QAAA 180830 CCB" "QBBB SIGMET 1 VALID 180830/181230 QAAA-"
+    "QBBB NORTH SOUND FIR/UIR SEV TURB OBS AT 0825Z ENTIRE FIR FL250/370 INTSF FCST AT 1230Z N OF N54 AND W OF W010="
+
+abbrev pub correctedRecord : Record
+correctedRecord =
+    record {
+      heading = sampleHeading 2 (code "B");
+      line = sampleLine sequenceOne;
+      area = sampleArea 2;
+      form = Reported;
+      report =
+          record {
+            phenomenon = 9;
+            volcano = noVolcano;
+            observation = record { word = 1; timed = true; time = record { hour = 8; minute = 25 } };
+            extent = record { location = Entire; points = noExtent .points };
+            level = Band 250 370;
+            ending = Forecast 1;
+            forecast =
+                record {
+                  location =
+                      Bounded
+                      (record {
+                        latitude = record { of = code "N"; at = coordinate (code "N") 2 54 0 };
+                        longitude = record { of = code "W"; at = coordinate (code "W") 3 10 0 };
+                      });
+                  points = noExtent .points;
+                };
+          };
+    }
