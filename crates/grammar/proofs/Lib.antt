@@ -3,3 +3,4 @@ pub mod Told
 pub mod Invariant
 pub mod Moves
 pub mod NumberLaws
+pub mod PlaceLaws
