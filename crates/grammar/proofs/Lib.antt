@@ -4,3 +4,4 @@ pub mod Invariant
 pub mod Moves
 pub mod NumberLaws
 pub mod PlaceLaws
+pub mod Places
