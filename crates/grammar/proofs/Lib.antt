@@ -4,4 +4,5 @@ pub mod Invariant
 pub mod Moves
 pub mod NumberLaws
 pub mod PlaceLaws
+pub mod Outlines
 pub mod Places

@@ -3,25 +3,44 @@
 use mathlib.Core.Bool.{Bool, true, false}
 use mathlib.Core.List.{List, [], _∷_, _++_}
 use mathlib.Core.Path.{_≡_, refl, ap, sym, _∙_}
-use Prim.Native.Nat.{ℕ}
+use Prim.Native.Nat.{ℕ, zero, suc, _+_, _≤_, _<_}
+use native.Mathlib.Omega.{arith}
+use lib.Dec.{leb}
+use lib.ListN.{length, length-append}
+use borrow.Author.Tests.{leb-true, leb-false, lt-ltb}
+use Rattle.lists.specs.Choice.{either}
+use Rattle.lists.specs.Base.{worthAfter}
+use Rattle.lists.specs.Lists.{allOf, same}
+use Rattle.lists.specs.Text.{bytes}
+use Rattle.lists.proofs.Choice.{by, clash, both-true, either-left, either-right, either-cases}
+use Rattle.figures.specs.Figures.{figuresOf}
+use Rattle.coordinates.specs.Coordinates.{northSouth, eastWest, goodCoordinate, spellCoordinate}
+use Rattle.coordinates.specs.Points.{goodPoint}
+use Rattle.coordinates.specs.declared.Coordinate.{Coordinate}
+use Rattle.coordinates.specs.declared.Point.{Point}
+use Rattle.levels.specs.Levels.{levelOf, goodLevelWord, goodLevel}
+use Rattle.levels.specs.declared.Level.the-variants.{Flight}
+use Rattle.message.specs.Limits.{leastPoints, mostPoints}
 use Rattle.message.specs.Locations.{goodExtent, extentWords}
 use Rattle.message.specs.Records.{good}
 use Rattle.message.specs.declared.Ending.the-variants.{Forecast}
 use Rattle.message.specs.declared.Extent.{Extent}
-use Rattle.grammar.specs.Numbers.{locationPart}
+use Rattle.grammar.specs.Numbers.{locationPart, placeNumber}
 use Rattle.grammar.specs.Parts.{Marked, marked}
-use Rattle.grammar.specs.Placing.{is, Placed, placeStep}
+use Rattle.grammar.specs.Placing.{is, Placed, closes, sameLatitude, roomAfter, placeStep}
 use Rattle.grammar.specs.Placing.Placed.{on, there, past, nowhere}
-use Rattle.grammar.specs.Records.{areaOf, reportOf}
+use Rattle.grammar.specs.Records.{outlined, areaOf, reportOf}
 use Rattle.grammar.specs.States.{ToObservation, ToLocation, ToLevel, Site, Placing, State, Move}
 use Rattle.grammar.specs.States.Site.{inReport, inForecast}
-use Rattle.grammar.specs.States.State.{atPlace, atLevel, atEnd}
+use Rattle.grammar.specs.States.Placing.{atLocation, atLatitudeOf, atLatitudeBound, atAnd, atSecondBound, atLongitudeOf, atLongitudeBound, atEntire, atLatitude, atLongitude, atDash}
+use Rattle.grammar.specs.States.State.{atPlace, atLevel, atEnding, atEnd}
 use Rattle.grammar.specs.States.Move.{goes, done, dead}
-use Rattle.grammar.specs.Steps.{closingAt, after, settled, stepPlace, step}
-use Rattle.grammar.proofs.Invariant.{ObservationOk, LocationOk, LevelOk, ForecastOk, SiteOk, PlacingOk, Ok, placeMark}
-use Rattle.grammar.proofs.Moves.{Fine, fine-as, fine-end}
+use Rattle.grammar.specs.Steps.{levelled, stepLevel, closingAt, after, settled, stepPlace, step}
+use Rattle.grammar.proofs.Invariant.{ObservationOk, LocationOk, LevelOk, ForecastOk, SiteOk, OutlineOk, PlacingOk, Ok, placeMark}
+use Rattle.grammar.proofs.Moves.{Fine, fine-as, fine-end, Next, next-by, next-end}
 use Rattle.grammar.proofs.Moves.Fine.{leads, ends, dies}
-use Rattle.grammar.proofs.PlaceLaws.{GoesOn, Ends, Ended, PlaceFine, place-fine}
+use Rattle.grammar.proofs.Outlines.{pointAt, latitude-on, dash-on, longitude-on, longitude-there, other-latitude, first-latitude, first-longitude, first-good, east, east-zero, north, north-zero, Elsewhere, elsewhere}
+use Rattle.grammar.proofs.PlaceLaws.{GoesOn, Ends, Ended, PlaceFine, place-fine, outline-last}
 use Rattle.grammar.proofs.PlaceLaws.PlaceFine.{goesOn, isThere, isPast, isNowhere}
 use Rattle.grammar.proofs.Told.{onward, onward-last, placingWords, toldSite, told, toldRecord}
 
@@ -53,3 +72,99 @@ module _
 
   pub place-sound : (site : Site) (p : Placing) (w : List ℕ) → SiteOk site → PlacingOk p → Fine (atPlace site p) w (stepPlace site p w)
   place-sound site p w ok placed = settled-sound site p w ok (place-fine (closingAt site) p w placed)
+
+-- Live.
+
+-- a location that ends with this word is good
+ends-good : {closing : ℕ} {p : Placing} {w : List ℕ} {x : Extent} → PlaceFine closing p w (there x) → goodExtent x ≡ true
+ends-good (isThere f) = f .isGood
+
+past-good : {closing : ℕ} {p : Placing} {w : List ℕ} {x : Extent} → PlaceFine closing p w (past x) → goodExtent x ≡ true
+past-good (isPast f) = f .isGood
+
+flight-level : (q : ToLocation) → step (atLevel q) (bytes "FL100") ≡ goes (levelled q (Flight 100))
+unfolding step stepLevel same levelOf goodLevelWord figuresOf allOf worthAfter
+flight-level q = refl
+
+flight-good : goodLevel (Flight 100) ≡ true
+unfolding goodLevel goodLevelWord
+flight-good = refl
+
+module _ (ending : (l : ToLevel) → LevelOk l → Next (atEnding l)) where
+  level-next : (q : ToLocation) → LocationOk q → Next (atEnding (record { before = q; level = Flight 100 }))
+  level-next q ok = ending (record { before = q; level = Flight 100 }) (record { before = ok; level = flight-good })
+
+  after-next : (site : Site) (x : Extent) → SiteOk site → goodExtent x ≡ true → Next (after site x)
+  after-next (inReport o) x ok g =
+      let q : ToLocation = record { before = o; extent = x } in
+      next-by (atLevel q) (bytes "FL100") (levelled q (Flight 100)) (flight-level q) refl (level-next q (record { before = ok; extent = g }))
+  after-next (inForecast l i) x ok g = next-end (reportOf l (Forecast i) x)
+
+  module _ (site : Site) (ok : SiteOk site) where
+    -- a word that goes on, and one that ends the location
+    by-word : (p next : Placing) (w : List ℕ) → placeStep (closingAt site) p w ≡ on next → placeMark site p w ≡ placeNumber site p → Next (atPlace site next) → Next (atPlace site p)
+    unfolding step
+    by-word p next w e k n = next-by (atPlace site p) w (atPlace site next) (ap (settled site w) e) k n
+
+    by-last : (p : Placing) (w : List ℕ) (x : Extent) → PlacingOk p → placeStep (closingAt site) p w ≡ there x → placeMark site p w ≡ placeNumber site p → Next (atPlace site p)
+    unfolding step
+    by-last p w x placed e k =
+        next-by (atPlace site p) w (after site x) (ap (settled site w) e) k (after-next site x ok (ends-good (rw e at (place-fine (closingAt site) p w placed))))
+
+    -- An outline. From four points on, point 1's own words close it.
+    shut-longitude : (first : Point) (ps : List Point) (latitude : Coordinate) → PlacingOk (atLongitude (first ∷ ps) latitude) → sameLatitude (first ∷ ps) latitude ≡ true
+        → leastPoints ≤ length (first ∷ ps) + 1 → Next (atPlace site (atLongitude (first ∷ ps) latitude))
+    shut-longitude first ps latitude placed e h =
+        by-last (atLongitude (first ∷ ps) latitude) (spellCoordinate eastWest (first .longitude)) (outlined ((first ∷ ps) ++ (pointAt latitude (first .longitude) ∷ []))) placed
+        (longitude-there (closingAt site) (first ∷ ps) latitude (first .longitude) (first-good first ps (placed .0 .points) .1) (first-longitude first ps latitude e) h) refl
+
+    shut-latitude : (ps : List Point) → OutlineOk ps → leastPoints ≤ length ps + 1 → Next (atPlace site (atLatitude ps))
+    shut-latitude [] placed h = absurd (omega arith)
+    shut-latitude (first ∷ ps) placed h =
+        let g : goodCoordinate northSouth (first .latitude) ≡ true = first-good first ps (placed .points) .0 in
+        let s : sameLatitude (first ∷ ps) (first .latitude) ≡ true = first-latitude first ps in
+        let r : either (roomAfter (first ∷ ps)) (sameLatitude (first ∷ ps) (first .latitude)) ≡ true = either-right (roomAfter (first ∷ ps)) s in
+        by-word (atLatitude (first ∷ ps)) (atLongitude (first ∷ ps) (first .latitude)) (spellCoordinate northSouth (first .latitude))
+        (latitude-on (closingAt site) (first ∷ ps) (first .latitude) g r) refl
+        (shut-longitude first ps (first .latitude) (placed, g, r) s h)
+
+    -- a point that does not close it
+    one-more : (ps : List Point) (latitude c : Coordinate) → PlacingOk (atLongitude ps latitude) → goodCoordinate eastWest c ≡ true → closes ps (pointAt latitude c) ≡ false → roomAfter ps ≡ true
+        → ((qs : List Point) → OutlineOk qs → length qs ≡ length ps + 1 → Next (atPlace site (atLatitude qs))) → Next (atPlace site (atLongitude ps latitude))
+    unfolding goodPoint
+    one-more ps latitude c placed g n r on′ =
+        let p : Point = pointAt latitude c in
+        let qs : List Point = ps ++ (p ∷ []) in
+        by-word (atLongitude ps latitude) (atDash qs) (spellCoordinate eastWest c) (longitude-on (closingAt site) ps latitude c g n r) refl
+        (by-word (atDash qs) (atLatitude qs) (bytes "-") (dash-on (closingAt site) qs) refl
+        (on′ qs (outline-last ps p (placed .0) (both-true (placed .1) g) n r) (length-append ps (p ∷ []))))
+
+    late-longitude : (ps : List Point) (latitude : Coordinate) → PlacingOk (atLongitude ps latitude) → leastPoints ≤ length ps + 1 → Next (atPlace site (atLongitude ps latitude))
+    late-longitude [] latitude placed h = absurd (omega arith)
+    late-longitude (first ∷ ps) latitude placed h =
+        by (sameLatitude (first ∷ ps) latitude) (λ e. shut-longitude first ps latitude placed e h)
+        (λ e. one-more (first ∷ ps) latitude (east 0) placed east-zero (other-latitude first ps (pointAt latitude (east 0)) e)
+        (either-cases (roomAfter (first ∷ ps)) (sameLatitude (first ∷ ps) latitude) (placed .2) (λ r. r) (λ s. clash (sameLatitude (first ∷ ps) latitude) s e))
+        (λ qs k l. shut-latitude qs k (omega arith)))
+
+    early-longitude : (ps : List Point) (latitude : Coordinate) → PlacingOk (atLongitude ps latitude) → length ps + 1 < leastPoints
+        → ((qs : List Point) → OutlineOk qs → length qs ≡ length ps + 1 → Next (atPlace site (atLatitude qs))) → Next (atPlace site (atLongitude ps latitude))
+    early-longitude ps latitude placed h on′ =
+        let x : Elsewhere ps latitude = elsewhere ps latitude (placed .0 .points) in
+        one-more ps latitude (x .longitude) placed (x .isGood) (x .isOpen) (lt-ltb (length ps + 1) mostPoints (omega arith)) on′
+
+    -- so many more points, and it can be closed
+    latitude-next : (more : ℕ) (ps : List Point) → OutlineOk ps → leastPoints ≤ length ps + 1 + more → Next (atPlace site (atLatitude ps))
+    latitude-next zero ps placed h = shut-latitude ps placed (omega arith)
+    latitude-next (suc more) ps placed h =
+        by (leb leastPoints (length ps + 1)) (λ e. shut-latitude ps placed (leb-true leastPoints (length ps + 1) e))
+        (λ e.
+          let few : length ps + 1 < leastPoints = leb-false leastPoints (length ps + 1) e in
+          let r : either (roomAfter ps) (sameLatitude ps (north 0)) ≡ true = either-left _ (lt-ltb (length ps + 1) mostPoints (omega arith)) in
+          by-word (atLatitude ps) (atLongitude ps (north 0)) (spellCoordinate northSouth (north 0)) (latitude-on (closingAt site) ps (north 0) north-zero r) refl
+          (early-longitude ps (north 0) (placed, north-zero, r) few (λ qs k l. latitude-next more qs k (omega arith))))
+
+    longitude-next : (ps : List Point) (latitude : Coordinate) → PlacingOk (atLongitude ps latitude) → Next (atPlace site (atLongitude ps latitude))
+    longitude-next ps latitude placed =
+        by (leb leastPoints (length ps + 1)) (λ e. late-longitude ps latitude placed (leb-true leastPoints (length ps + 1) e))
+        (λ e. early-longitude ps latitude placed (leb-false leastPoints (length ps + 1) e) (λ qs k l. latitude-next leastPoints qs k (omega arith)))
