@@ -111,11 +111,11 @@ unfolding boundWords
 bound-both latitude longitude g =
     by (emptySide latitude) (λ e. rw e) (λ e. rw (e, longitude-full longitude g))
 
-bounded-first : (latitude : Side) → goodSide northSouth latitude ≡ true → goodExtent (bounded latitude noSide) ≡ true
+pub bounded-first : (latitude : Side) → goodSide northSouth latitude ≡ true → goodExtent (bounded latitude noSide) ≡ true
 unfolding goodExtent goodBound noPoints allOf emptyPoint emptyCoordinate
 bounded-first latitude g = rw (latitude-full latitude g, g, no-side-empty)
 
-bounded-both : (latitude longitude : Side) → firstGood latitude ≡ true → goodSide eastWest longitude ≡ true → goodExtent (bounded latitude longitude) ≡ true
+pub bounded-both : (latitude longitude : Side) → firstGood latitude ≡ true → goodSide eastWest longitude ≡ true → goodExtent (bounded latitude longitude) ≡ true
 unfolding goodExtent goodBound noPoints allOf emptyPoint emptyCoordinate
 bounded-both latitude longitude f g =
     by (emptySide latitude) (λ e. rw (e, g)) (λ e. let k : goodSide northSouth latitude ≡ true = rw e at f in rw (e, k, longitude-full longitude g, g))
@@ -124,8 +124,8 @@ pub entirely-good : goodExtent entirely ≡ true
 unfolding goodExtent noPoints allOf emptyPoint emptyCoordinate
 entirely-good = refl
 
-first-good : (latitude : Side) → goodSide northSouth latitude ≡ true → firstGood latitude ≡ true
-first-good latitude g = rw (latitude-full latitude g) g
+pub first-side : (latitude : Side) → goodSide northSouth latitude ≡ true → firstGood latitude ≡ true
+first-side latitude g = rw (latitude-full latitude g) g
 
 -- Outlines.
 
@@ -251,7 +251,7 @@ place-fine closing (atAnd latitude) w ok = and-fine closing w latitude ok
 place-fine closing (atSecondBound latitude) w ok =
     on-if {next = atLongitudeOf latitude (getD w 0 0)} (sideWord eastWest w)
     (λ e. record {
-      ok = (first-good latitude ok, side-letter eastWest w e .0);
+      ok = (first-side latitude ok, side-letter eastWest w e .0);
       words = rw (latitude-full latitude ok, side-letter eastWest w e .1);
       part = λ site. refl;
     })

@@ -3,6 +3,7 @@
 use mathlib.Core.Bool.{Bool, true, false}
 use mathlib.Core.List.{List, [], _∷_, _++_}
 use mathlib.Core.Path.{_≡_, refl, ap, sym, _∙_}
+use Prim.Native.Char.{code}
 use Prim.Native.Nat.{ℕ, zero, suc, _+_, _≤_, _<_}
 use native.Mathlib.Omega.{arith}
 use lib.Dec.{leb}
@@ -13,23 +14,27 @@ use Rattle.lists.specs.Base.{worthAfter}
 use Rattle.lists.specs.Lists.{allOf, same}
 use Rattle.lists.specs.Text.{bytes}
 use Rattle.lists.proofs.Choice.{by, clash, both-true, either-left, either-right, either-cases}
+use Rattle.lists.proofs.Lists.{same-refl}
 use Rattle.figures.specs.Figures.{figuresOf}
 use Rattle.coordinates.specs.Coordinates.{northSouth, eastWest, goodCoordinate, spellCoordinate}
 use Rattle.coordinates.specs.Points.{goodPoint}
 use Rattle.coordinates.specs.declared.Coordinate.{Coordinate}
 use Rattle.coordinates.specs.declared.Point.{Point}
+use Rattle.coordinates.proofs.Axes.{latitude-reads, longitude-reads}
 use Rattle.levels.specs.Levels.{levelOf, goodLevelWord, goodLevel}
 use Rattle.levels.specs.declared.Level.the-variants.{Flight}
 use Rattle.message.specs.Limits.{leastPoints, mostPoints}
-use Rattle.message.specs.Locations.{goodExtent, extentWords}
+use Rattle.message.specs.Locations.{goodSide, noSide, goodExtent, extentWords}
 use Rattle.message.specs.Records.{good}
 use Rattle.message.specs.declared.Ending.the-variants.{Forecast}
 use Rattle.message.specs.declared.Extent.{Extent}
+use Rattle.message.specs.declared.Side.{Side}
 use Rattle.grammar.specs.Numbers.{locationPart, placeNumber}
 use Rattle.grammar.specs.Parts.{Marked, marked}
-use Rattle.grammar.specs.Placing.{is, Placed, closes, sameLatitude, roomAfter, placeStep}
+use Rattle.grammar.specs.Placing.{is, Placed, closes, sameLatitude, roomAfter, entireWord, locating, placeStep}
 use Rattle.grammar.specs.Placing.Placed.{on, there, past, nowhere}
-use Rattle.grammar.specs.Records.{outlined, areaOf, reportOf}
+use Rattle.grammar.specs.Records.{bounded, outlined, entirely, areaOf, reportOf}
+use Rattle.grammar.specs.Runs.{walk}
 use Rattle.grammar.specs.States.{ToObservation, ToLocation, ToLevel, Site, Placing, State, Move}
 use Rattle.grammar.specs.States.Site.{inReport, inForecast}
 use Rattle.grammar.specs.States.Placing.{atLocation, atLatitudeOf, atLatitudeBound, atAnd, atSecondBound, atLongitudeOf, atLongitudeBound, atEntire, atLatitude, atLongitude, atDash}
@@ -40,7 +45,7 @@ use Rattle.grammar.proofs.Invariant.{ObservationOk, LocationOk, LevelOk
 use Rattle.grammar.proofs.Moves.{Fine, fine-as, fine-end, Next, next-by, next-end}
 use Rattle.grammar.proofs.Moves.Fine.{leads, ends, dies}
 use Rattle.grammar.proofs.Outlines.{pointAt, latitude-on, dash-on, longitude-on, longitude-there, other-latitude, first-latitude, first-longitude, first-good, east, east-zero, north, north-zero, Elsewhere, elsewhere}
-use Rattle.grammar.proofs.PlaceLaws.{GoesOn, Ends, Ended, PlaceFine, place-fine, outline-last}
+use Rattle.grammar.proofs.PlaceLaws.{GoesOn, Ends, Ended, PlaceFine, place-fine, outline-last, good-side, no-side-empty, bounded-first, first-side}
 use Rattle.grammar.proofs.PlaceLaws.PlaceFine.{goesOn, isThere, isPast, isNowhere}
 use Rattle.grammar.proofs.Told.{onward, onward-last, placingWords, toldSite, told, toldRecord}
 
@@ -79,9 +84,6 @@ module _
 ends-good : {closing : ℕ} {p : Placing} {w : List ℕ} {x : Extent} → PlaceFine closing p w (there x) → goodExtent x ≡ true
 ends-good (isThere f) = f .isGood
 
-past-good : {closing : ℕ} {p : Placing} {w : List ℕ} {x : Extent} → PlaceFine closing p w (past x) → goodExtent x ≡ true
-past-good (isPast f) = f .isGood
-
 flight-level : (q : ToLocation) → step (atLevel q) (bytes "FL100") ≡ goes (levelled q (Flight 100))
 unfolding step stepLevel same levelOf goodLevelWord figuresOf allOf worthAfter
 flight-level q = refl
@@ -99,6 +101,14 @@ module _ (ending : (l : ToLevel) → LevelOk l → Next (atEnding l)) where
       let q : ToLocation = record { before = o; extent = x } in
       next-by (atLevel q) (bytes "FL100") (levelled q (Flight 100)) (flight-level q) refl (level-next q (record { before = ok; extent = g }))
   after-next (inForecast l i) x ok g = next-end (reportOf l (Forecast i) x)
+
+  -- after a latitude bound: a level, or the `=`
+  and-next : (site : Site) (latitude : Side) → SiteOk site → goodSide northSouth latitude ≡ true → Next (atPlace site (atAnd latitude))
+  unfolding step placeStep stepLevel walk same levelOf goodLevelWord figuresOf allOf worthAfter
+  and-next (inReport o) latitude ok g =
+      let q : ToLocation = record { before = o; extent = bounded latitude noSide } in
+      next-by (atPlace (inReport o) (atAnd latitude)) (bytes "FL100") (levelled q (Flight 100)) refl refl (level-next q (record { before = ok; extent = bounded-first latitude g }))
+  and-next (inForecast l i) latitude ok g = record { word = []; rest = []; message = reportOf l (Forecast i) (bounded latitude noSide); ends = refl; part = refl }
 
   module _ (site : Site) (ok : SiteOk site) where
     -- a word that goes on, and one that ends the location
@@ -168,3 +178,51 @@ module _ (ending : (l : ToLevel) → LevelOk l → Next (atEnding l)) where
     longitude-next ps latitude placed =
         by (leb leastPoints (length ps + 1)) (λ e. late-longitude ps latitude placed (leb-true leastPoints (length ps + 1) e))
         (λ e. early-longitude ps latitude placed (leb-false leastPoints (length ps + 1) e) (λ qs k l. latitude-next leastPoints qs k (omega arith)))
+
+    -- Bounds and the entire area.
+    longitude-bound : (latitude : Side) (side : ℕ) → PlacingOk (atLongitudeBound latitude side) → Next (atPlace site (atLongitudeBound latitude side))
+    unfolding placeStep
+    longitude-bound latitude side placed =
+        by-last (atLongitudeBound latitude side) (spellCoordinate eastWest (east 0)) (bounded latitude (record { of = side; at = east 0 })) placed (rw (longitude-reads .forth (east 0) east-zero, east-zero)) refl
+
+    longitude-of : (latitude : Side) (side : ℕ) → PlacingOk (atLongitudeOf latitude side) → Next (atPlace site (atLongitudeOf latitude side))
+    unfolding placeStep same
+    longitude-of latitude side placed = by-word (atLongitudeOf latitude side) (atLongitudeBound latitude side) (bytes "OF") refl refl (longitude-bound latitude side placed)
+
+    latitude-bound : (side : ℕ) → PlacingOk (atLatitudeBound side) → Next (atPlace site (atLatitudeBound side))
+    unfolding placeStep
+    latitude-bound side placed =
+        let s : Side = record { of = side; at = north 0 } in
+        by-word (atLatitudeBound side) (atAnd s) (spellCoordinate northSouth (north 0)) (rw (latitude-reads .forth (north 0) north-zero, north-zero)) refl
+        (and-next site s ok (good-side northSouth s placed north-zero))
+
+    first-bound : Next (atPlace site (atLongitudeOf noSide (code "E")))
+    first-bound = longitude-of noSide (code "E") (rw no-side-empty, refl)
+
+    entire-next : Next (atPlace site atEntire)
+    unfolding placeStep
+    entire-next = by-last atEntire (entireWord (closingAt site)) entirely tt (rw (same-refl (entireWord (closingAt site)))) refl
+
+    placing-next : (p : Placing) → PlacingOk p → Next (atPlace site p)
+    unfolding placeStep locating same
+    placing-next atLocation placed = by-word atLocation (atLongitudeOf noSide (code "E")) (bytes "E") refl refl first-bound
+    placing-next (atLatitudeOf side) placed = by-word (atLatitudeOf side) (atLatitudeBound side) (bytes "OF") refl refl (latitude-bound side placed)
+    placing-next (atLatitudeBound side) placed = latitude-bound side placed
+    placing-next (atAnd latitude) placed = and-next site latitude ok placed
+    placing-next (atSecondBound latitude) placed =
+        by-word (atSecondBound latitude) (atLongitudeOf latitude (code "E")) (bytes "E") refl refl (longitude-of latitude (code "E") (first-side latitude placed, refl))
+    placing-next (atLongitudeOf latitude side) placed = longitude-of latitude side placed
+    placing-next (atLongitudeBound latitude side) placed = longitude-bound latitude side placed
+    placing-next atEntire placed = entire-next
+    placing-next (atLatitude ps) placed = latitude-next leastPoints ps placed (omega arith)
+    placing-next (atLongitude ps latitude) placed = longitude-next ps latitude placed
+    placing-next (atDash ps) placed = by-word (atDash ps) (atLatitude ps) (bytes "-") refl refl (latitude-next leastPoints ps (placed .0) (omega arith))
+
+  pub place-next : (site : Site) (p : Placing) → SiteOk site → PlacingOk p → Next (atPlace site p)
+  place-next site p ok placed = placing-next site ok p placed
+
+  -- a location may begin with a word that is no `AT`
+  pub location-starts : (o : ToObservation) → ObservationOk o
+      → (w : List ℕ) × (next : State) × (step (atPlace (inReport o) atLocation) w ≡ goes next) × (is "AT" w ≡ false) × Next next
+  unfolding step placeStep locating same
+  location-starts o ok = (bytes "E", atPlace (inReport o) (atLongitudeOf noSide (code "E")), refl, refl, first-bound (inReport o) ok)
