@@ -1,14 +1,14 @@
 -- The points of an outline, word by word: which words go on, which one closes it, and that an open outline can always be closed.
 -- Assumes nothing.
 use mathlib.Core.Bool.{Bool, true, false, not}
-use mathlib.Core.List.{List, [], _∷_, _++_, append-assoc}
+use mathlib.Core.List.{List, [], _∷_, _++_, append-nil, append-assoc}
 use mathlib.Core.Path.{_≡_, refl, ap, sym, _∙_}
 use Prim.Native.Char.{code}
 use Prim.Native.Nat.{ℕ, zero, suc, _+_, _-_, _≤_, _<_}
 use native.Mathlib.Omega.{arith}
 use lib.Dec.{eqb, leb, ltb}
 use lib.IntN.{ℤ, pos, natAbs, _-ℤ_, +ℤ-idr}
-use lib.ListN.{length}
+use lib.ListN.{length, length-append}
 use borrow.Author.Tests.{le-leb, lt-ltb, eq-eqb, ne-eqb, eqb-true, eqb-false, not-true}
 use Rattle.lists.specs.Choice.{both, either}
 use Rattle.lists.specs.Lists.{allOf, same}
@@ -23,12 +23,21 @@ use Rattle.coordinates.proofs.Axes.{latitude-reads, longitude-reads}
 use Rattle.coordinates.proofs.Globe.{apart-self, apart-none}
 use Rattle.coordinates.proofs.Range.{signed-range}
 use Rattle.message.specs.Limits.{leastPoints, mostPoints}
+use Rattle.message.specs.Locations.{joined}
+use Rattle.message.specs.declared.Extent.{Extent}
 use Rattle.grammar.specs.Placing.{Placed, closes, sameLatitude, roomAfter, pointed, placeStep}
 use Rattle.grammar.specs.Placing.Placed.{on, there}
 use Rattle.grammar.specs.Records.{outlined}
-use Rattle.grammar.specs.States.{Placing}
+use Rattle.grammar.specs.Runs.{walk}
+use Rattle.grammar.specs.States.{Site, Placing}
 use Rattle.grammar.specs.States.Placing.{atLatitude, atLongitude, atDash}
+use Rattle.grammar.specs.States.State.{atPlace}
+use Rattle.grammar.specs.States.Move.{goes}
+use Rattle.grammar.specs.Steps.{closingAt, after, settled, step}
 use Rattle.grammar.proofs.Invariant.{unclosed, OutlineOk}
+use Rattle.grammar.proofs.Moves.{walk-step}
+use Rattle.grammar.proofs.PlaceLaws.{joined-last}
+use Rattle.grammar.proofs.Told.{trailed}
 
 abbrev pub pointAt : Coordinate → Coordinate → Point
 pointAt latitude longitude = record { latitude = latitude; longitude = longitude }
@@ -123,3 +132,54 @@ unfolding allOf goodPoint
 first-good first ps g =
     let p : goodPoint first ≡ true = both-left (goodPoint first) (allOf goodPoint ps) g in
     (both-left _ _ p, both-right (goodCoordinate northSouth (first .latitude)) (goodCoordinate eastWest (first .longitude)) p)
+
+-- a point in the middle of an open outline does not close it
+pub middle-open : (ps : List Point) (x : Point) (mid : List Point) → unclosed (ps ++ (x ∷ mid)) ≡ true → closes ps x ≡ false
+unfolding allOf
+middle-open [] x mid u = refl
+middle-open (first ∷ ps) x mid u =
+    let f : Point → Bool = λ (q : Point). not (samePoint first q) in
+    not-true (samePoint first x) (both-left (f x) (allOf f mid) (both-right (allOf f ps) (allOf f (x ∷ mid)) (sym (all-append f ps (x ∷ mid)) ∙ u)))
+
+pub middle-good : (ps : List Point) (x : Point) (mid : List Point) → allOf goodPoint (ps ++ (x ∷ mid)) ≡ true
+    → (goodCoordinate northSouth (x .latitude) ≡ true) × (goodCoordinate eastWest (x .longitude) ≡ true)
+middle-good ps x mid g = first-good x mid (both-right (allOf goodPoint ps) (allOf goodPoint (x ∷ mid)) (sym (all-append goodPoint ps (x ∷ mid)) ∙ g))
+
+-- The words of an outline lead through it.
+
+module _ (site : Site) (p : Placing) (w : List ℕ) (ws : List (List ℕ)) where
+  pub walk-on : (next : Placing) → placeStep (closingAt site) p w ≡ on next → walk (goes (atPlace site p)) (w ∷ ws) ≡ walk (goes (atPlace site next)) ws
+  unfolding step
+  walk-on next e = walk-step (atPlace site p) (atPlace site next) w ws (ap (settled site w) e)
+
+  pub walk-there : (x : Extent) → placeStep (closingAt site) p w ≡ there x → walk (goes (atPlace site p)) (w ∷ ws) ≡ walk (goes (after site x)) ws
+  unfolding step
+  walk-there x e = walk-step (atPlace site p) (after site x) w ws (ap (settled site w) e)
+
+module _ (site : Site) (qs : List Point) (p : Point) (ws : List (List ℕ)) (good : allOf goodPoint qs ≡ true) (end : goodPoint p ≡ true)
+    (room : length qs < mostPoints) (least : leastPoints ≤ length qs + 1) (isOpen : unclosed qs ≡ true) (shut : closes qs p ≡ true) where
+  last-point : walk (goes (atPlace site (atLatitude qs))) (pointWords p ++ ws) ≡ walk (goes (after site (outlined (qs ++ (p ∷ []))))) ws
+  unfolding goodPoint
+  last-point =
+      walk-on site (atLatitude qs) (spellCoordinate northSouth (p .latitude)) (spellCoordinate eastWest (p .longitude) ∷ ws) (atLongitude qs (p .latitude))
+      (latitude-on (closingAt site) qs (p .latitude) (both-left _ _ end) (either-right (roomAfter qs) (closes-latitude qs p shut)))
+      ∙ walk-there site (atLongitude qs (p .latitude)) (spellCoordinate eastWest (p .longitude)) ws (outlined (qs ++ (p ∷ [])))
+      (longitude-there (closingAt site) qs (p .latitude) (p .longitude) (both-right (goodCoordinate northSouth (p .latitude)) _ end) shut least)
+
+  points-on : (ps mid : List Point) → ps ++ mid ≡ qs
+      → walk (goes (atPlace site (atLatitude ps))) (trailed mid ++ pointWords p ++ ws) ≡ walk (goes (after site (outlined (qs ++ (p ∷ []))))) ws
+  points-on ps [] e = let i : ps ≡ qs = sym (append-nil ps) ∙ e in rw i last-point
+  points-on ps (x ∷ mid) e =
+      let g : (goodCoordinate northSouth (x .latitude) ≡ true) × (goodCoordinate eastWest (x .longitude) ≡ true) = middle-good ps x mid (rw e good) in
+      let r : roomAfter ps ≡ true = lt-ltb (length ps + 1) mostPoints (omega (arith, length-append ps (x ∷ mid), ap length e)) in
+      let vs : List (List ℕ) = trailed mid ++ pointWords p ++ ws in
+      walk-on site (atLatitude ps) (spellCoordinate northSouth (x .latitude)) (spellCoordinate eastWest (x .longitude) ∷ bytes "-" ∷ vs) (atLongitude ps (x .latitude))
+      (latitude-on (closingAt site) ps (x .latitude) (g .0) (either-left _ r))
+      ∙ (walk-on site (atLongitude ps (x .latitude)) (spellCoordinate eastWest (x .longitude)) (bytes "-" ∷ vs) (atDash (ps ++ (x ∷ [])))
+      (longitude-on (closingAt site) ps (x .latitude) (x .longitude) (g .1) (middle-open ps x mid (rw e isOpen)) r)
+      ∙ (walk-on site (atDash (ps ++ (x ∷ []))) (bytes "-") vs (atLatitude (ps ++ (x ∷ []))) (dash-on (closingAt site) (ps ++ (x ∷ [])))
+      ∙ points-on (ps ++ (x ∷ [])) mid (append-assoc ps (x ∷ []) mid ∙ e)))
+
+  -- from the first point to the one that closes it
+  pub outline-on : walk (goes (atPlace site (atLatitude []))) (joined (qs ++ (p ∷ [])) ++ ws) ≡ walk (goes (after site (outlined (qs ++ (p ∷ []))))) ws
+  outline-on = rw (joined-last qs p) (points-on [] qs refl)
