@@ -8,23 +8,28 @@ use Prim.Native.Nat.{ℕ, zero, suc, _+_, _-_, _≤_, _<_}
 use native.Mathlib.Omega.{arith}
 use lib.Dec.{eqb, leb, ltb}
 use lib.IntN.{ℤ, pos, natAbs, _-ℤ_, +ℤ-idr}
-use lib.ListN.{length, length-append}
+use lib.ListN.{length, take, drop, getD, replicate, length-append, length-drop, take-append-drop}
+use lib.Seq.{length-take-le, take-suc}
 use borrow.Author.Tests.{le-leb, lt-ltb, eq-eqb, ne-eqb, eqb-true, eqb-false, not-true}
 use Rattle.lists.specs.Choice.{both, either}
-use Rattle.lists.specs.Lists.{allOf, same}
+use Rattle.lists.specs.Lists.{indexOf, allOf, same}
 use Rattle.lists.specs.Text.{bytes}
 use Rattle.lists.proofs.Choice.{by, clash, both-left, both-right, both-true, both-false-left, both-false-right, either-left, either-right, either-false, either-cases}
-use Rattle.lists.proofs.Lists.{all-append}
+use Rattle.lists.proofs.Lists.{all-append, index-clear, index-found}
+use Rattle.words.specs.Bytes.{between}
+use Rattle.words.proofs.Ranges.{between-low, between-high}
 use Rattle.coordinates.specs.Coordinates.{northSouth, eastWest, coordinateOf, goodCoordinate, spellCoordinate, signedOf}
-use Rattle.coordinates.specs.Points.{apart, samePoint, goodPoint, pointWords}
+use Rattle.coordinates.specs.Points.{apart, samePoint, goodPoint, emptyPoint, noPoint, pointWords}
 use Rattle.coordinates.specs.declared.Coordinate.{Coordinate}
 use Rattle.coordinates.specs.declared.Point.{Point}
 use Rattle.coordinates.proofs.Axes.{latitude-reads, longitude-reads}
 use Rattle.coordinates.proofs.Globe.{apart-self, apart-none}
+use Rattle.coordinates.proofs.Goodness.{empty-point-is}
 use Rattle.coordinates.proofs.Range.{signed-range}
 use Rattle.message.specs.Limits.{leastPoints, mostPoints}
-use Rattle.message.specs.Locations.{joined}
+use Rattle.message.specs.Locations.{closingPoint, goodOutline, joined}
 use Rattle.message.specs.declared.Extent.{Extent}
+use Rattle.message.specs.declared.Location.the-variants.{Outline}
 use Rattle.grammar.specs.Placing.{Placed, closes, sameLatitude, roomAfter, pointed, placeStep}
 use Rattle.grammar.specs.Placing.Placed.{on, there}
 use Rattle.grammar.specs.Records.{outlined}
@@ -183,3 +188,84 @@ module _ (site : Site) (qs : List Point) (p : Point) (ws : List (List ℕ)) (goo
   -- from the first point to the one that closes it
   pub outline-on : walk (goes (atPlace site (atLatitude []))) (joined (qs ++ (p ∷ [])) ++ ws) ≡ walk (goes (after site (outlined (qs ++ (p ∷ []))))) ws
   outline-on = rw (joined-last qs p) (points-on [] qs refl)
+
+-- What a good outline is: points that do not close it, and one that does.
+
+pub empty-points : (ps : List Point) → allOf emptyPoint ps ≡ true → ps ≡ replicate (length ps) noPoint
+unfolding allOf
+empty-points [] t = refl
+empty-points (p ∷ ps) t =
+    let i : p ≡ noPoint = empty-point-is p (both-left _ _ t) in
+    let j : ps ≡ replicate (length ps) noPoint = empty-points ps (both-right (emptyPoint p) (allOf emptyPoint ps) t) in
+    λ k. i k ∷ j k
+
+pub record Outlined (n : ℕ) (ps : List Point) : Type 0 where
+  pub before : List Point
+  pub last : Point
+  pub points : allOf goodPoint before ≡ true
+  pub end : goodPoint last ≡ true
+  pub room : length before < mostPoints
+  pub least : leastPoints ≤ length before + 1
+  pub isOpen : unclosed before ≡ true
+  pub shut : closes before last ≡ true
+  pub taken : take n ps ≡ before ++ (last ∷ [])
+  pub whole : record { location = Outline n; points = ps } ≡ outlined (before ++ (last ∷ []))
+
+-- the points read, and the empty places after them
+outlined-is : (n : ℕ) (ps qs : List Point) → n ≤ mostPoints → length ps ≡ mostPoints → allOf emptyPoint (drop n ps) ≡ true → take n ps ≡ qs
+    → record { location = Outline n; points = ps } ≡ outlined qs
+outlined-is n ps qs high long none e = λ i. record { location = Outline (count i); points = all i }
+  where
+    count : n ≡ length qs
+    count = rw (← e) (sym (length-take-le n ps (omega arith)))
+
+    rest : length (drop n ps) ≡ mostPoints - length qs
+    rest = omega (arith, length-drop n ps, count)
+
+    all : ps ≡ qs ++ replicate (mostPoints - length qs) noPoint
+    all = sym (take-append-drop n ps) ∙ (rw (e, ← rest) (ap (λ (r : List Point). qs ++ r) (empty-points (drop n ps) none)))
+
+outline-parts : (n : ℕ) (ps : List Point) → leastPoints ≤ n → n ≤ mostPoints → length ps ≡ mostPoints → allOf goodPoint (take n ps) ≡ true → closingPoint ps ≡ n - 1
+    → allOf emptyPoint (drop n ps) ≡ true → Outlined n ps
+unfolding allOf
+outline-parts zero ps low high long g c none = absurd (omega arith)
+outline-parts (suc zero) ps low high long g c none = absurd (omega arith)
+outline-parts (suc (suc m)) [] low high long g c none = absurd (omega arith)
+outline-parts (suc (suc m)) (first ∷ ps) low high long g c none = record {
+  before = first ∷ take m ps;
+  last = last;
+  points = both-left _ _ good;
+  end = both-left _ _ (both-right (allOf goodPoint (first ∷ take m ps)) (allOf goodPoint (last ∷ [])) good);
+  room = omega (arith, size);
+  least = omega (arith, size);
+  isOpen = rw at-m at (index-clear (samePoint first) ps);
+  shut = rw at-m at (index-found (samePoint first) ps noPoint (omega (arith, at-m)));
+  taken = taken;
+  whole = outlined-is (suc (suc m)) (first ∷ ps) (first ∷ take m ps ++ (last ∷ [])) high long none taken;
+}
+  where
+    last : Point
+    last = getD ps m noPoint
+
+    at-m : indexOf (samePoint first) ps ≡ m
+    at-m = omega arith
+
+    size : length (take m ps) ≡ m
+    size = length-take-le m ps (omega arith)
+
+    taken : first ∷ take (suc m) ps ≡ (first ∷ take m ps) ++ (last ∷ [])
+    taken = ap (λ (r : List Point). first ∷ r) (take-suc ps m noPoint (omega arith))
+
+    good : both (allOf goodPoint (first ∷ take m ps)) (allOf goodPoint (last ∷ [])) ≡ true
+    good = sym (all-append goodPoint (first ∷ take m ps) (last ∷ [])) ∙ (sym (ap (allOf goodPoint) taken) ∙ g)
+
+pub outline-told : (n : ℕ) (ps : List Point) → goodOutline n ps ≡ true → Outlined n ps
+unfolding goodOutline
+outline-told n ps t =
+    let first : between leastPoints mostPoints n ≡ true = both-left _ _ t in
+    let more = both-right (between leastPoints mostPoints n) (both (eqb (length ps) mostPoints) (both (allOf goodPoint (take n ps)) (both (eqb (closingPoint ps) (n - 1)) (allOf emptyPoint (drop n ps))))) t in
+    let good = both-right (eqb (length ps) mostPoints) (both (allOf goodPoint (take n ps)) (both (eqb (closingPoint ps) (n - 1)) (allOf emptyPoint (drop n ps)))) more in
+    let rest = both-right (allOf goodPoint (take n ps)) (both (eqb (closingPoint ps) (n - 1)) (allOf emptyPoint (drop n ps))) good in
+    outline-parts n ps (between-low leastPoints mostPoints n first) (between-high leastPoints mostPoints n first)
+    (eqb-true (length ps) mostPoints (both-left _ _ more)) (both-left _ _ good) (eqb-true (closingPoint ps) (n - 1) (both-left _ _ rest))
+    (both-right (eqb (closingPoint ps) (n - 1)) (allOf emptyPoint (drop n ps)) rest)
