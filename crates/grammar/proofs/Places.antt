@@ -6,25 +6,26 @@ use mathlib.Core.Path.{_≡_, refl, ap, sym, _∙_}
 use Prim.Native.Char.{code}
 use Prim.Native.Nat.{ℕ, zero, suc, _+_, _≤_, _<_}
 use native.Mathlib.Omega.{arith}
-use lib.Dec.{leb}
+use lib.Dec.{eqb, leb}
 use lib.ListN.{length, length-append}
-use borrow.Author.Tests.{leb-true, leb-false, lt-ltb}
+use borrow.Author.Tests.{eqb-true, leb-true, leb-false, lt-ltb}
 use Rattle.lists.specs.Choice.{either}
 use Rattle.lists.specs.Base.{worthAfter}
 use Rattle.lists.specs.Lists.{allOf, same}
 use Rattle.lists.specs.Text.{bytes}
-use Rattle.lists.proofs.Choice.{by, clash, both-true, either-left, either-right, either-cases}
+use Rattle.lists.proofs.Choice.{by, clash, both-left, both-right, both-true, either-left, either-right, either-cases}
 use Rattle.lists.proofs.Lists.{same-refl}
 use Rattle.figures.specs.Figures.{figuresOf}
-use Rattle.coordinates.specs.Coordinates.{northSouth, eastWest, goodCoordinate, spellCoordinate}
-use Rattle.coordinates.specs.Points.{goodPoint}
+use Rattle.coordinates.specs.Coordinates.{Axis, northSouth, eastWest, goodCoordinate, emptyCoordinate, spellCoordinate}
+use Rattle.coordinates.specs.Points.{goodPoint, emptyPoint}
 use Rattle.coordinates.specs.declared.Coordinate.{Coordinate}
 use Rattle.coordinates.specs.declared.Point.{Point}
 use Rattle.coordinates.proofs.Axes.{latitude-reads, longitude-reads}
+use Rattle.coordinates.proofs.Goodness.{empty-is}
 use Rattle.levels.specs.Levels.{levelOf, goodLevelWord, goodLevel}
 use Rattle.levels.specs.declared.Level.the-variants.{Flight}
 use Rattle.message.specs.Limits.{leastPoints, mostPoints}
-use Rattle.message.specs.Locations.{goodSide, noSide, goodExtent, extentWords}
+use Rattle.message.specs.Locations.{goodSide, emptySide, noSide, noPoints, goodExtent, noExtent, sideWords, extentWords}
 use Rattle.message.specs.Records.{good}
 use Rattle.message.specs.declared.Ending.the-variants.{Forecast}
 use Rattle.message.specs.declared.Extent.{Extent}
@@ -41,10 +42,10 @@ use Rattle.grammar.specs.States.Placing.{atLocation, atLatitudeOf, atLat
 use Rattle.grammar.specs.States.State.{atPlace, atLevel, atEnding, atEnd}
 use Rattle.grammar.specs.States.Move.{goes, done, dead}
 use Rattle.grammar.specs.Steps.{levelled, stepLevel, closingAt, after, settled, stepPlace, step}
-use Rattle.grammar.proofs.Invariant.{ObservationOk, LocationOk, LevelOk, ForecastOk, SiteOk, OutlineOk, PlacingOk, Ok, placeMark}
+use Rattle.grammar.proofs.Invariant.{letterOn, ObservationOk, LocationOk, LevelOk, ForecastOk, SiteOk, OutlineOk, PlacingOk, Ok, placeMark}
 use Rattle.grammar.proofs.Moves.{Fine, fine-as, fine-end, Next, next-by, next-end}
 use Rattle.grammar.proofs.Moves.Fine.{leads, ends, dies}
-use Rattle.grammar.proofs.Outlines.{pointAt, latitude-on, dash-on, longitude-on, longitude-there, other-latitude, first-latitude, first-longitude, first-good, east, east-zero, north, north-zero, Elsewhere, elsewhere}
+use Rattle.grammar.proofs.Outlines.{pointAt, latitude-on, dash-on, longitude-on, longitude-there, other-latitude, first-latitude, first-longitude, first-good, east, east-zero, north, north-zero, Elsewhere, elsewhere, walk-on, walk-there, empty-points}
 use Rattle.grammar.proofs.PlaceLaws.{GoesOn, Ends, Ended, PlaceFine, place-fine, outline-last, good-side, no-side-empty, bounded-first, first-side}
 use Rattle.grammar.proofs.PlaceLaws.PlaceFine.{goesOn, isThere, isPast, isNowhere}
 use Rattle.grammar.proofs.Told.{onward, onward-last, placingWords, toldSite, told, toldRecord}
@@ -226,3 +227,62 @@ module _ (ending : (l : ToLevel) → LevelOk l → Next (atEnding l)) where
       → (w : List ℕ) × (next : State) × (step (atPlace (inReport o) atLocation) w ≡ goes next) × (is "AT" w ≡ false) × Next next
   unfolding step placeStep locating same
   location-starts o ok = (bytes "E", atPlace (inReport o) (atLongitudeOf noSide (code "E")), refl, refl, first-bound (inReport o) ok)
+
+-- Forth: the words of a good location lead through it.
+
+no-points : (ps : List Point) → noPoints ps ≡ true → ps ≡ noExtent .points
+unfolding noPoints
+no-points ps t =
+    let long : length ps ≡ mostPoints = eqb-true (length ps) mostPoints (both-left _ _ t) in
+    rw long at (empty-points ps (both-right (eqb (length ps) mostPoints) (allOf emptyPoint ps) t))
+
+no-side : (s : Side) → emptySide s ≡ true → s ≡ noSide
+unfolding emptySide
+no-side s t = λ i. record { of = eqb-true (s .of) 0 (both-left _ _ t) i; at = empty-is (s .at) (both-right (eqb (s .of) 0) (emptyCoordinate (s .at)) t) i }
+
+side-parts : (a : Axis) (s : Side) → goodSide a s ≡ true → (letterOn a (s .of) ≡ true) × (goodCoordinate a (s .at) ≡ true)
+unfolding goodSide
+side-parts a s g = (both-left _ _ g, both-right (letterOn a (s .of)) (goodCoordinate a (s .at)) g)
+
+module _ (closing side : ℕ) where
+  north-south : letterOn northSouth side ≡ true → placeStep closing atLocation (side ∷ []) ≡ on (atLatitudeOf side)
+  unfolding placeStep locating same
+  north-south l = either-cases (eqb side (code "N")) (eqb side (code "S")) l (λ e. rw (eqb-true side (code "N") e)) (λ e. rw (eqb-true side (code "S") e))
+
+  east-west : letterOn eastWest side ≡ true → placeStep closing atLocation (side ∷ []) ≡ on (atLongitudeOf noSide side)
+  unfolding placeStep locating same
+  east-west l = either-cases (eqb side (code "E")) (eqb side (code "W")) l (λ e. rw (eqb-true side (code "E") e)) (λ e. rw (eqb-true side (code "W") e))
+
+  second : (latitude : Side) → letterOn eastWest side ≡ true → placeStep closing (atSecondBound latitude) (side ∷ []) ≡ on (atLongitudeOf latitude side)
+  unfolding placeStep same
+  second latitude l = either-cases (eqb side (code "E")) (eqb side (code "W")) l (λ e. rw (eqb-true side (code "E") e)) (λ e. rw (eqb-true side (code "W") e))
+
+module _ (site : Site) where
+  -- a longitude bound, from a state that takes its letter
+  longitude-words : (p : Placing) (latitude longitude : Side) (ws : List (List ℕ)) → goodSide eastWest longitude ≡ true
+      → placeStep (closingAt site) p (longitude .of ∷ []) ≡ on (atLongitudeOf latitude (longitude .of))
+      → walk (goes (atPlace site p)) (sideWords eastWest longitude ++ ws) ≡ walk (goes (after site (bounded latitude longitude))) ws
+  unfolding placeStep same
+  longitude-words p latitude longitude ws g e =
+      let c : List ℕ = spellCoordinate eastWest (longitude .at) in
+      let h : goodCoordinate eastWest (longitude .at) ≡ true = side-parts eastWest longitude g .1 in
+      walk-on site p (longitude .of ∷ []) (bytes "OF" ∷ c ∷ ws) (atLongitudeOf latitude (longitude .of)) e
+      ∙ (walk-on site (atLongitudeOf latitude (longitude .of)) (bytes "OF") (c ∷ ws) (atLongitudeBound latitude (longitude .of)) refl
+      ∙ walk-there site (atLongitudeBound latitude (longitude .of)) c ws (bounded latitude longitude) (rw (longitude-reads .forth (longitude .at) h, h)))
+
+  latitude-words : (latitude : Side) (ws : List (List ℕ)) → goodSide northSouth latitude ≡ true
+      → walk (goes (atPlace site atLocation)) (sideWords northSouth latitude ++ ws) ≡ walk (goes (atPlace site (atAnd latitude))) ws
+  unfolding placeStep same
+  latitude-words latitude ws g =
+      let c : List ℕ = spellCoordinate northSouth (latitude .at) in
+      let h : goodCoordinate northSouth (latitude .at) ≡ true = side-parts northSouth latitude g .1 in
+      walk-on site atLocation (latitude .of ∷ []) (bytes "OF" ∷ c ∷ ws) (atLatitudeOf (latitude .of)) (north-south (closingAt site) (latitude .of) (side-parts northSouth latitude g .0))
+      ∙ (walk-on site (atLatitudeOf (latitude .of)) (bytes "OF") (c ∷ ws) (atLatitudeBound (latitude .of)) refl
+      ∙ walk-on site (atLatitudeBound (latitude .of)) c ws (atAnd latitude) (rw (latitude-reads .forth (latitude .at) h, h)))
+
+-- after a latitude bound, a word that is no `AND` is judged as what follows
+walk-past : (site : Site) (latitude : Side) (w : List ℕ) (ws : List (List ℕ)) → is "AND" w ≡ false
+    → walk (goes (atPlace site (atAnd latitude))) (w ∷ ws) ≡ walk (goes (after site (bounded latitude noSide))) (w ∷ ws)
+unfolding walk step placeStep
+walk-past (inReport o) latitude w ws n = rw n
+walk-past (inForecast l i) latitude w ws n = rw n
