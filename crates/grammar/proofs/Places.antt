@@ -7,9 +7,9 @@ use Prim.Native.Char.{code}
 use Prim.Native.Nat.{ℕ, zero, suc, _+_, _≤_, _<_}
 use native.Mathlib.Omega.{arith}
 use lib.Dec.{eqb, leb}
-use lib.ListN.{length, length-append}
+use lib.ListN.{length, take, length-append}
 use borrow.Author.Tests.{eqb-true, leb-true, leb-false, lt-ltb}
-use Rattle.lists.specs.Choice.{either}
+use Rattle.lists.specs.Choice.{both, either}
 use Rattle.lists.specs.Base.{worthAfter}
 use Rattle.lists.specs.Lists.{allOf, same}
 use Rattle.lists.specs.Text.{bytes}
@@ -25,10 +25,12 @@ use Rattle.coordinates.proofs.Goodness.{empty-is}
 use Rattle.levels.specs.Levels.{levelOf, goodLevelWord, goodLevel}
 use Rattle.levels.specs.declared.Level.the-variants.{Flight}
 use Rattle.message.specs.Limits.{leastPoints, mostPoints}
-use Rattle.message.specs.Locations.{goodSide, emptySide, noSide, noPoints, goodExtent, noExtent, sideWords, extentWords}
+use Rattle.message.specs.Locations.{goodSide, emptySide, noSide, goodBound, noPoints, locatedBy, goodExtent, noExtent, sideWords, boundWords, joined, locationWords, extentWords}
 use Rattle.message.specs.Records.{good}
 use Rattle.message.specs.declared.Ending.the-variants.{Forecast}
 use Rattle.message.specs.declared.Extent.{Extent}
+use Rattle.message.specs.declared.Location.{Location}
+use Rattle.message.specs.declared.Location.the-variants.{Nowhere, Bounded, Outline, Entire}
 use Rattle.message.specs.declared.Side.{Side}
 use Rattle.grammar.specs.Numbers.{locationPart, placeNumber}
 use Rattle.grammar.specs.Parts.{Marked, marked}
@@ -45,7 +47,7 @@ use Rattle.grammar.specs.Steps.{levelled, stepLevel, closingAt, after, s
 use Rattle.grammar.proofs.Invariant.{letterOn, ObservationOk, LocationOk, LevelOk, ForecastOk, SiteOk, OutlineOk, PlacingOk, Ok, placeMark}
 use Rattle.grammar.proofs.Moves.{Fine, fine-as, fine-end, Next, next-by, next-end}
 use Rattle.grammar.proofs.Moves.Fine.{leads, ends, dies}
-use Rattle.grammar.proofs.Outlines.{pointAt, latitude-on, dash-on, longitude-on, longitude-there, other-latitude, first-latitude, first-longitude, first-good, east, east-zero, north, north-zero, Elsewhere, elsewhere, walk-on, walk-there, empty-points}
+use Rattle.grammar.proofs.Outlines.{pointAt, latitude-on, dash-on, longitude-on, longitude-there, other-latitude, first-latitude, first-longitude, first-good, east, east-zero, north, north-zero, Elsewhere, elsewhere, walk-on, walk-there, outline-on, empty-points, Outlined, outline-told}
 use Rattle.grammar.proofs.PlaceLaws.{GoesOn, Ends, Ended, PlaceFine, place-fine, outline-last, good-side, no-side-empty, bounded-first, first-side}
 use Rattle.grammar.proofs.PlaceLaws.PlaceFine.{goesOn, isThere, isPast, isNowhere}
 use Rattle.grammar.proofs.Told.{onward, onward-last, placingWords, toldSite, told, toldRecord}
@@ -286,3 +288,44 @@ walk-past : (site : Site) (latitude : Side) (w : List ℕ) (ws : List (List ℕ)
 unfolding walk step placeStep
 walk-past (inReport o) latitude w ws n = rw n
 walk-past (inForecast l i) latitude w ws n = rw n
+
+module _ (site : Site) (w : List ℕ) (ws : List (List ℕ)) (n : is "AND" w ≡ false) where
+  bound-on : (latitude longitude : Side) → goodBound (record { latitude = latitude; longitude = longitude }) ≡ true
+      → walk (goes (atPlace site atLocation)) (boundWords (record { latitude = latitude; longitude = longitude }) ++ (w ∷ ws)) ≡ walk (goes (after site (bounded latitude longitude))) (w ∷ ws)
+  unfolding goodBound boundWords placeStep same
+  bound-on latitude longitude g =
+      by (emptySide latitude)
+      (λ e.
+        let h : goodSide eastWest longitude ≡ true = rw e at g in
+        let i : latitude ≡ noSide = no-side latitude e in
+        rw (e, i) (longitude-words site atLocation noSide longitude (w ∷ ws) h (east-west (closingAt site) (longitude .of) (side-parts eastWest longitude h .0))))
+      (λ e.
+        let h : both (goodSide northSouth latitude) (either (emptySide longitude) (goodSide eastWest longitude)) ≡ true = rw e at g in
+        let k : goodSide northSouth latitude ≡ true = both-left _ _ h in
+        by (emptySide longitude)
+        (λ f. rw (e, f, no-side longitude f) (latitude-words site latitude (w ∷ ws) k ∙ walk-past site latitude w ws n))
+        (λ f.
+          let m : goodSide eastWest longitude ≡ true = rw f at (both-right (goodSide northSouth latitude) (either (emptySide longitude) (goodSide eastWest longitude)) h) in
+          rw (e, f)
+          (latitude-words site latitude (bytes "AND" ∷ (sideWords eastWest longitude ++ (w ∷ ws))) k
+          ∙ (walk-on site (atAnd latitude) (bytes "AND") (sideWords eastWest longitude ++ (w ∷ ws)) (atSecondBound latitude) refl
+          ∙ longitude-words site (atSecondBound latitude) latitude longitude (w ∷ ws) m (second (closingAt site) (longitude .of) latitude (side-parts eastWest longitude m .0))))))
+
+  located : (l : Location) (ps : List Point) → locatedBy l ps ≡ true
+      → walk (goes (atPlace site atLocation)) (locationWords (closingAt site) l ps ++ (w ∷ ws)) ≡ walk (goes (after site (record { location = l; points = ps }))) (w ∷ ws)
+  unfolding placeStep locating same
+  located Nowhere ps g = clash false g refl
+  located (Bounded b) ps g = rw (no-points ps (both-right (goodBound b) (noPoints ps) g)) (bound-on (b .latitude) (b .longitude) (both-left _ _ g))
+  located (Outline k) ps g =
+      let o : Outlined k ps = outline-told k ps g in
+      walk-on site atLocation (bytes "WI") (joined (take k ps) ++ (w ∷ ws)) (atLatitude []) refl
+      ∙ rw (o .taken, o .whole) (outline-on site (o .before) (o .last) (w ∷ ws) (o .points) (o .end) (o .room) (o .least) (o .isOpen) (o .shut))
+  located Entire ps g =
+      rw (no-points ps g)
+      (walk-on site atLocation (bytes "ENTIRE") (entireWord (closingAt site) ∷ w ∷ ws) atEntire refl
+      ∙ walk-there site atEntire (entireWord (closingAt site)) (w ∷ ws) entirely (rw (same-refl (entireWord (closingAt site)))))
+
+pub forth-extent : (site : Site) (e : Extent) (w : List ℕ) (ws : List (List ℕ)) → goodExtent e ≡ true → is "AND" w ≡ false
+    → walk (goes (atPlace site atLocation)) (extentWords (closingAt site) e ++ (w ∷ ws)) ≡ walk (goes (after site e)) (w ∷ ws)
+unfolding goodExtent extentWords
+forth-extent site e w ws g n = located site w ws n (e .location) (e .points) g
