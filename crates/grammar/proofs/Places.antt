@@ -9,23 +9,26 @@ use native.Mathlib.Omega.{arith}
 use lib.Dec.{eqb, leb}
 use lib.ListN.{length, take, length-append}
 use borrow.Author.Tests.{eqb-true, leb-true, leb-false, lt-ltb}
-use Rattle.lists.specs.Choice.{both, either}
+use Rattle.lists.specs.Choice.{pick, both, either}
 use Rattle.lists.specs.Base.{worthAfter}
 use Rattle.lists.specs.Lists.{allOf, same}
 use Rattle.lists.specs.Text.{bytes}
-use Rattle.lists.proofs.Choice.{by, clash, both-left, both-right, both-true, either-left, either-right, either-cases}
-use Rattle.lists.proofs.Lists.{same-refl}
+use Rattle.lists.proofs.Choice.{by, clash, both-left, both-right, both-true, both-false-right, either-left, either-right, either-cases}
+use Rattle.lists.proofs.Lists.{same-refl, all-append}
+use Rattle.words.specs.Bytes.{letter, allowed}
+use Rattle.words.specs.Words.{plainWord}
 use Rattle.figures.specs.Figures.{figuresOf}
+use Rattle.figures.proofs.PlainLaws.{letter-plain, plain-cons}
 use Rattle.coordinates.specs.Coordinates.{Axis, northSouth, eastWest, goodCoordinate, emptyCoordinate, spellCoordinate}
-use Rattle.coordinates.specs.Points.{goodPoint, emptyPoint}
+use Rattle.coordinates.specs.Points.{goodPoint, emptyPoint, pointWords}
 use Rattle.coordinates.specs.declared.Coordinate.{Coordinate}
 use Rattle.coordinates.specs.declared.Point.{Point}
-use Rattle.coordinates.proofs.Axes.{latitude-reads, longitude-reads}
+use Rattle.coordinates.proofs.Axes.{spell-plain, latitude-reads, longitude-reads, latitude-plain, longitude-plain}
 use Rattle.coordinates.proofs.Goodness.{empty-is}
 use Rattle.levels.specs.Levels.{levelOf, goodLevelWord, goodLevel}
 use Rattle.levels.specs.declared.Level.the-variants.{Flight}
-use Rattle.message.specs.Limits.{leastPoints, mostPoints}
-use Rattle.message.specs.Locations.{goodSide, emptySide, noSide, goodBound, noPoints, locatedBy, goodExtent, noExtent, sideWords, boundWords, joined, locationWords, extentWords}
+use Rattle.message.specs.Limits.{leastPoints, mostPoints, cta}
+use Rattle.message.specs.Locations.{goodSide, emptySide, noSide, goodBound, noPoints, locatedBy, goodExtent, noExtent, sideWords, boundWords, dashed, joined, locationWords, extentWords}
 use Rattle.message.specs.Records.{good}
 use Rattle.message.specs.declared.Ending.the-variants.{Forecast}
 use Rattle.message.specs.declared.Extent.{Extent}
@@ -329,3 +332,83 @@ pub forth-extent : (site : Site) (e : Extent) (w : List ℕ) (ws : List (List �
     → walk (goes (atPlace site atLocation)) (extentWords (closingAt site) e ++ (w ∷ ws)) ≡ walk (goes (after site e)) (w ∷ ws)
 unfolding goodExtent extentWords
 forth-extent site e w ws g n = located site w ws n (e .location) (e .points) g
+
+-- The words of a good location: the first is no `AT`, …
+
+one-letter : (x : ℕ) → is "AT" (x ∷ []) ≡ false
+unfolding same
+one-letter x = both-false-right (eqb x (code "A")) refl
+
+first-of : (closing : ℕ) (l : Location) (ps : List Point) → locatedBy l ps ≡ true
+    → (w : List ℕ) × (rest : List (List ℕ)) × (locationWords closing l ps ≡ w ∷ rest) × (is "AT" w ≡ false)
+unfolding boundWords same
+first-of closing Nowhere ps g = clash false g refl
+first-of closing (Bounded b) ps g =
+    let latitude : Side = b .latitude in
+    let longitude : Side = b .longitude in
+    by (emptySide latitude)
+    (λ e. (longitude .of ∷ [], bytes "OF" ∷ spellCoordinate eastWest (longitude .at) ∷ [], rw e, one-letter (longitude .of)))
+    (λ e. (
+      latitude .of ∷ [],
+      bytes "OF" ∷ spellCoordinate northSouth (latitude .at) ∷ pick (emptySide longitude) [] (bytes "AND" ∷ sideWords eastWest longitude),
+      rw e,
+      one-letter (latitude .of),
+    ))
+first-of closing (Outline n) ps g = (bytes "WI", joined (take n ps), refl, refl)
+first-of closing Entire ps g = (bytes "ENTIRE", entireWord closing ∷ [], refl, refl)
+
+pub extent-first : (closing : ℕ) (e : Extent) → goodExtent e ≡ true
+    → (w : List ℕ) × (rest : List (List ℕ)) × (extentWords closing e ≡ w ∷ rest) × (is "AT" w ≡ false)
+unfolding goodExtent extentWords
+extent-first closing e g = first-of closing (e .location) (e .points) g
+
+-- … and all have plain bytes alone
+
+side-plain : (a : Axis) (s : Side) → letter (a .plus) ≡ true → letter (a .minus) ≡ true → goodSide a s ≡ true → allOf plainWord (sideWords a s) ≡ true
+unfolding allOf allowed
+side-plain a s p m g =
+    let parts : (letterOn a (s .of) ≡ true) × (goodCoordinate a (s .at) ≡ true) = side-parts a s g in
+    let l : letter (s .of) ≡ true = either-cases (eqb (s .of) (a .plus)) (eqb (s .of) (a .minus)) (parts .0) (λ e. rw (eqb-true (s .of) (a .plus) e) p) (λ e. rw (eqb-true (s .of) (a .minus) e) m) in
+    both-true (plain-cons (s .of) [] (letter-plain (s .of) l) refl) (both-true (spell-plain a p m (s .at) (parts .1)) refl)
+
+point-plain : (p : Point) → goodPoint p ≡ true → allOf plainWord (pointWords p) ≡ true
+unfolding allOf goodPoint
+point-plain p g =
+    both-true (latitude-plain (p .latitude) (both-left _ _ g)) (both-true (longitude-plain (p .longitude) (both-right (goodCoordinate northSouth (p .latitude)) (goodCoordinate eastWest (p .longitude)) g)) refl)
+
+dashed-plain : (ps : List Point) → allOf goodPoint ps ≡ true → allOf plainWord (dashed ps) ≡ true
+unfolding dashed allOf allowed
+dashed-plain [] g = refl
+dashed-plain (p ∷ ps) g = all-append plainWord (pointWords p) (dashed ps) ∙ both-true (point-plain p (both-left _ _ g)) (dashed-plain ps (both-right (goodPoint p) (allOf goodPoint ps) g))
+
+joined-plain : (ps : List Point) → allOf goodPoint ps ≡ true → allOf plainWord (joined ps) ≡ true
+unfolding joined allOf
+joined-plain [] g = refl
+joined-plain (p ∷ ps) g = all-append plainWord (pointWords p) (dashed ps) ∙ both-true (point-plain p (both-left _ _ g)) (dashed-plain ps (both-right (goodPoint p) (allOf goodPoint ps) g))
+
+bound-plain : (latitude longitude : Side) → goodBound (record { latitude = latitude; longitude = longitude }) ≡ true
+    → allOf plainWord (boundWords (record { latitude = latitude; longitude = longitude })) ≡ true
+unfolding goodBound boundWords allOf allowed
+bound-plain latitude longitude g =
+    by (emptySide latitude) (λ e. rw e (side-plain eastWest longitude refl refl (rw e at g)))
+    (λ e.
+      let h : both (goodSide northSouth latitude) (either (emptySide longitude) (goodSide eastWest longitude)) ≡ true = rw e at g in
+      let front : allOf plainWord (sideWords northSouth latitude) ≡ true = side-plain northSouth latitude refl refl (both-left _ _ h) in
+      by (emptySide longitude) (λ f. rw (e, f) front)
+      (λ f.
+        let m : goodSide eastWest longitude ≡ true = rw f at (both-right (goodSide northSouth latitude) (either (emptySide longitude) (goodSide eastWest longitude)) h) in
+        rw (e, f) (all-append plainWord (sideWords northSouth latitude) (bytes "AND" ∷ sideWords eastWest longitude) ∙ both-true front (side-plain eastWest longitude refl refl m))))
+
+location-plain : (closing : ℕ) (l : Location) (ps : List Point) → locatedBy l ps ≡ true → allOf plainWord (locationWords closing l ps) ≡ true
+unfolding allOf allowed
+location-plain closing Nowhere ps g = clash false g refl
+location-plain closing (Bounded b) ps g = bound-plain (b .latitude) (b .longitude) (both-left _ _ g)
+location-plain closing (Outline n) ps g =
+    let o : Outlined n ps = outline-told n ps g in
+    ap (λ (qs : List Point). allOf plainWord (joined qs)) (o .taken)
+    ∙ joined-plain (o .before ++ (o .last ∷ [])) (all-append goodPoint (o .before) (o .last ∷ []) ∙ both-true (o .points) (both-true (o .end) refl))
+location-plain closing Entire ps g = by (eqb closing cta) (λ e. rw e) (λ e. rw e)
+
+pub plain-extent : (closing : ℕ) (e : Extent) → goodExtent e ≡ true → allOf plainWord (extentWords closing e) ≡ true
+unfolding goodExtent extentWords
+plain-extent closing e g = location-plain closing (e .location) (e .points) g
