@@ -21,3 +21,8 @@ pub mod Forth
 pub mod Published
 pub mod TextLaws
 pub mod TextCases
+pub mod PlaceLaws
+pub mod Outlines
+pub mod Places
+pub mod Sections
+pub mod Plain
