@@ -26,3 +26,4 @@ pub mod Outlines
 pub mod Places
 pub mod Sections
 pub mod Plain
+pub mod Theorems

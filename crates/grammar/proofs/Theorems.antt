@@ -1,0 +1,81 @@
+-- The theorems of the grammar, with nothing left open. They speak of `good`, `wordsOf` and `textOf` (crate message), of the words of a text
+-- (crate words), and of what is said without the machine in `Judged` and `Replies`; `step` stands in none but through `run`, `walk`, `readOf`.
+-- Assumes nothing.
+use mathlib.Core.Bool.{true}
+use mathlib.Core.List.{List, [], _∷_, _++_}
+use mathlib.Core.Logic.{_↔_}
+use mathlib.Core.Path.{_≡_, refl, ap, sym, _∙_}
+use Prim.Native.Nat.{ℕ, suc, _≤_}
+use lib.ListN.{length, take}
+use Rattle.words.specs.Words.{Word}
+use Rattle.message.specs.Records.{good}
+use Rattle.message.specs.Words.{wordsOf, textOf}
+use Rattle.message.specs.declared.Record.{Record}
+use Rattle.grammar.specs.Judged.{messageWords, bytesOf, Whole, RefusedAt}
+use Rattle.grammar.specs.Layout.{Canonical}
+use Rattle.grammar.specs.Reads.{acceptance, readOf}
+use Rattle.grammar.specs.Replies.{Replied}
+use Rattle.grammar.specs.Runs.{walk, run}
+use Rattle.grammar.specs.Runs.Ran.{accepted, refused}
+use Rattle.grammar.specs.States.Move.{goes, done}
+use Rattle.grammar.specs.States.State.{atDesignator}
+use Rattle.grammar.specs.Writes.{Wrote, writeOf, written, unwritten}
+use Rattle.grammar.specs.declared.Reply.{Reply}
+use Rattle.grammar.proofs.FirstDead.{refused-there, there-refused}
+use Rattle.grammar.proofs.Forth.{good-accepted}
+use Rattle.grammar.proofs.Marks.{accepted-good, accepted-words}
+use Rattle.grammar.proofs.Opening.{plain-heading, plain-line}
+use Rattle.grammar.proofs.Plain.{plain-body}
+use Rattle.grammar.proofs.Replies.{text-accepted, text-accepts, replied, reply-only}
+use Rattle.grammar.proofs.RunLaws.{done-same, run-walks, walk-runs}
+use Rattle.grammar.proofs.Sections.{sound, next}
+use Rattle.grammar.proofs.TextLaws.{text-read, text-canonical, canonical-is-text, write-read, read-write}
+use Rattle.grammar.proofs.Twelve.{twelve-exactly}
+
+-- Words.
+
+-- a. Accepted words are the words of the accepted record, and that record is good.
+pub theorem-a : (ws : List (List ℕ)) (r : Record) → walk (goes atDesignator) ws ≡ done r → (good r ≡ true) × (ws ≡ messageWords r)
+theorem-a ws r e = (accepted-good sound ws r e, accepted-words sound ws r e)
+
+-- b. For every good record, its words are accepted as that record.
+pub theorem-b : (r : Record) → good r ≡ true → walk (goes atDesignator) (messageWords r) ≡ done r
+theorem-b r g = good-accepted r g
+
+-- So words are accepted as r exactly when r is good and they are its words, …
+pub accepted-exactly : (ws : List (List ℕ)) (r : Record) → (walk (goes atDesignator) ws ≡ done r) ↔ ((good r ≡ true) × (ws ≡ messageWords r))
+accepted-exactly ws r = (theorem-a ws r, λ h. ap (walk (goes atDesignator)) (h .1) ∙ theorem-b r (h .0))
+
+-- … and two good records with the same words are equal.
+pub one-meaning : (q r : Record) → good q ≡ true → good r ≡ true → wordsOf q ≡ wordsOf r → q ≡ r
+one-meaning q r g h e =
+    let same : messageWords q ≡ messageWords r = ap (λ (ws : List (List ℕ)). ws ++ ([] ∷ [])) e in
+    done-same (sym (theorem-b q g) ∙ (ap (walk (goes atDesignator)) same ∙ theorem-b r h))
+
+-- The same of words with their places.
+pub run-accepts-exactly : (ws : List Word) (r : Record) → (run atDesignator ws ≡ accepted r) ↔ ((good r ≡ true) × (bytesOf ws ≡ messageWords r))
+run-accepts-exactly ws r =
+    (λ e. theorem-a (bytesOf ws) r (run-walks atDesignator ws r e), λ h. walk-runs atDesignator ws r (accepted-exactly (bytesOf ws) r .1 h))
+
+-- c and d. A run is refused by a number at a place exactly where `RefusedAt` says so: the words before begin an accepted message, with this word
+-- they begin none, and the number is that of the part that the word is judged as.
+pub theorem-c-d : (ws : List Word) (number place : ℕ) → (run atDesignator ws ≡ refused number place) ↔ RefusedAt ws number place
+theorem-c-d ws n p = (refused-there sound next good-accepted ws n p, there-refused sound next good-accepted ws n p)
+
+-- d. The number is 12 exactly where the words before also make an accepted message with the `=`.
+pub theorem-d-twelve : (ws : List Word) (number place : ℕ) (r : RefusedAt ws number place) → (number ≡ 12) ↔ Whole (bytesOf (r .before) ++ ([] ∷ []))
+theorem-d-twelve ws n p r = twelve-exactly sound next good-accepted ws n p r
+
+-- Bytes.
+
+-- Every list of bytes gets the reply that `Replied` says, …
+pub read-replied : (b : List ℕ) → Replied b (readOf b)
+read-replied b = replied sound next good-accepted b
+
+-- … and no other.
+pub read-determined : (b : List ℕ) (q : Reply) → Replied b q → q ≡ readOf b
+read-determined b q h = reply-only sound next good-accepted b q h
+
+-- Reading the canonical text of a good record gives that record.
+pub good-text-read : (r : Record) → good r ≡ true → length (textOf r) ≤ 2048 → readOf (textOf r) ≡ acceptance r
+good-text-read r g h = text-read (text-accepted sound next good-accepted) (text-accepts sound next good-accepted) plain-heading plain-line plain-body r g h
