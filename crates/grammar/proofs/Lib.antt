@@ -5,3 +5,4 @@ pub mod Moves
 pub mod NumberLaws
 pub mod TextLaws
 pub mod TextCases
+pub mod Lengths
