@@ -27,3 +27,4 @@ pub mod Places
 pub mod Sections
 pub mod Plain
 pub mod Theorems
+pub mod Lengths

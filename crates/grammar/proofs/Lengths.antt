@@ -1,0 +1,446 @@
+-- Every good record's text has at most 2,048 bytes: by the size of its words, each counted with a space, part by part.
+-- Assumes nothing.
+use mathlib.Core.Bool.{Bool, true, false, not}
+use mathlib.Core.List.{List, [], _∷_, _++_}
+use mathlib.Core.Path.{_≡_, refl}
+use Prim.Native.Nat.{ℕ, zero, suc, _+_, _-_, _*_, _^_, _≤_, _<_, zero-le}
+use native.Mathlib.Nat.{not-suc-le-zero}
+use native.Mathlib.Omega.{arith}
+use lib.Dec.{leb, ltb, eqb, lit≤}
+use lib.ListN.{length, take, drop, getD, length-append, length-take}
+use borrow.Author.Tests.{leb-true, le-ltb, eqb-true}
+use Rattle.lists.specs.Choice.{pick, both, either}
+use Rattle.lists.specs.Lists.{allOf}
+use Rattle.lists.specs.Text.{bytes}
+use Rattle.lists.proofs.Choice.{by, both-left, both-right, either-cases}
+use Rattle.words.specs.Bytes.{between, letter}
+use Rattle.words.specs.Words.{line}
+use Rattle.words.proofs.Ranges.{between-high}
+use Rattle.figures.specs.Figures.{inFigures}
+use Rattle.figures.specs.Letters.{inLetters, goodLetters}
+use Rattle.figures.specs.Tables.{numbered}
+use Rattle.figures.proofs.FigureLaws.{length-inFigures}
+use Rattle.figures.proofs.LetterLaws.{length-inLetters}
+use Rattle.coordinates.specs.Coordinates.{Axis, northSouth, eastWest, spellCoordinate}
+use Rattle.coordinates.specs.Points.{goodPoint, emptyPoint, pointWords}
+use Rattle.coordinates.specs.declared.Coordinate.{Coordinate}
+use Rattle.coordinates.specs.declared.Point.{Point}
+use Rattle.groups.specs.Groups.{goodGroup, goodPeriod, spellTime}
+use Rattle.groups.specs.declared.Time.{Time}
+use Rattle.groups.proofs.GroupLaws.{length-group, length-period, length-time}
+use Rattle.headings.specs.Headings.{typeWords, spellDesignator, spellOffice}
+use Rattle.headings.specs.Sequences.{characters, goodSequence, letterOf, spellSequence}
+use Rattle.headings.specs.declared.Designator.{Designator}
+use Rattle.headings.specs.declared.Sequence.{Sequence}
+use Rattle.levels.specs.Levels.{feetFigures, spellLevelWord, goodLevel, levelWords}
+use Rattle.levels.specs.declared.Level.{Level}
+use Rattle.levels.specs.declared.Level.the-variants.{NoLevel, Flight, SurfaceFlight, SurfaceMetres, SurfaceFeet, Band, TopFlight, AboveFlight, TopAboveFlight}
+use Rattle.motions.specs.Motions.{compassWords, spellCompass, intensityWords, goodIntensity, spellIntensity}
+use Rattle.motions.specs.Speeds.{unitWords, spellSpeed}
+use Rattle.motions.specs.declared.Speed.{Speed}
+use Rattle.names.specs.Names.{closingWords, goodClosing, onto, pieces, nameText}
+use Rattle.names.proofs.NameLaws.{pieces-some}
+use Rattle.message.specs.Limits.{nameBytes, mountainLimit, leastPoints, mostPoints, ws, wv, cta, ashCloud, eruption}
+use Rattle.message.specs.Locations.{emptySide, closingPoint, goodOutline, locatedBy, goodExtent, sideWords, boundWords, dashed, joined, locationWords, extentWords}
+use Rattle.message.specs.Names.{unusedZero, goodName, emptyName, nameWords}
+use Rattle.message.specs.Records.{goodHeading, goodLine, goodArea, namesItself, goodCancellation, goodForm, good}
+use Rattle.message.specs.Reports.{phenomena, goodVolcano, emptyVolcano, goodPhenomenon, mountWords, volcanoWords, phenomenonWords, goodObservation, observationWords, goodEnding, endingWords, goodReport, emptyReport, reportWords}
+use Rattle.message.specs.Words.{headingWords, lineWords, areaWords, testTexts, timeOfDay, formWords, bodyWords, textOf}
+use Rattle.message.specs.declared.Area.{Area}
+use Rattle.message.specs.declared.Bound.{Bound}
+use Rattle.message.specs.declared.Ending.{Ending}
+use Rattle.message.specs.declared.Ending.the-variants.{NoEnding, Moving, Stationary, Forecast}
+use Rattle.message.specs.declared.Extent.{Extent}
+use Rattle.message.specs.declared.FirstLine.{FirstLine}
+use Rattle.message.specs.declared.Form.{Form}
+use Rattle.message.specs.declared.Form.the-variants.{NoForm, Test, Cancellation, Reported}
+use Rattle.message.specs.declared.Heading.{Heading}
+use Rattle.message.specs.declared.Location.{Location}
+use Rattle.message.specs.declared.Location.the-variants.{Nowhere, Bounded, Outline, Entire}
+use Rattle.message.specs.declared.Name.{Name}
+use Rattle.message.specs.declared.Observation.{Observation}
+use Rattle.message.specs.declared.Record.{Record}
+use Rattle.message.specs.declared.Report.{Report}
+use Rattle.message.specs.declared.Side.{Side}
+use Rattle.message.specs.declared.Volcano.{Volcano}
+use Rattle.grammar.specs.Writes.{writeOf}
+
+-- Words, each with a space after it.
+
+abbrev size : List (List ℕ) → ℕ
+size [] = 0
+size (w ∷ ws) = suc (length w + size ws)
+
+line-size : (ws : List (List ℕ)) → length (line ws) ≤ size ws
+unfolding line
+line-size [] = zero-le
+line-size (w ∷ []) = omega arith
+line-size (w ∷ v ∷ ws) = rw (length-append w (32 ∷ line (v ∷ ws))) (omega (arith, line-size (v ∷ ws)))
+
+size-append : (vs ws : List (List ℕ)) → size (vs ++ ws) ≡ size vs + size ws
+size-append [] ws = omega arith
+size-append (v ∷ vs) ws = omega (arith, size-append vs ws)
+
+size-pick : (t : Bool) (vs ws : List (List ℕ)) (k : ℕ) → size vs ≤ k → size ws ≤ k → size (pick t vs ws) ≤ k
+size-pick true vs ws k h l = h
+size-pick false vs ws k h l = l
+
+-- The longest of a table: what is not in it counts as empty.
+
+at-most : {A : Type 0} (f : A → ℕ) (k : ℕ) (xs : List A) (d : A) → f d ≤ k → allOf (λ (x : A). leb (f x) k) xs ≡ true → (i : ℕ) → f (getD xs i d) ≤ k
+unfolding allOf
+at-most f k [] d h t i = h
+at-most f k (x ∷ xs) d h t zero = leb-true (f x) k (both-left (leb (f x) k) (allOf (λ (y : _). leb (f y) k) xs) t)
+at-most f k (x ∷ xs) d h t (suc i) = at-most f k xs d h (both-right (leb (f x) k) (allOf (λ (y : _). leb (f y) k) xs) t) i
+
+word-most : (k : ℕ) (table : List (List ℕ)) (i : ℕ) → allOf (λ (w : List ℕ). leb (length w) k) table ≡ true → length (getD table i []) ≤ k
+word-most k table i t = at-most length k table [] zero-le t i
+
+numbered-most : (k first : ℕ) (table : List (List ℕ)) (n : ℕ) → allOf (λ (w : List ℕ). leb (length w) k) table ≡ true
+    → length (numbered first table n) ≤ k
+numbered-most k first table n t = go (ltb n first)
+  where
+    go : (b : Bool) → length (pick b [] (getD table (n - first) [])) ≤ k
+    go true = zero-le
+    go false = word-most k table (n - first) t
+
+-- The heading.
+
+designator-most : (d : Designator) → length (spellDesignator d) ≤ 6
+unfolding spellDesignator typeWords allOf
+designator-most d =
+    rw (length-append (numbered 2 typeWords (d .kind)), length-append (inLetters 2 (d .region)), length-inLetters 2 (d .region), length-inFigures 2 (d .number))
+    (omega (arith, numbered-most 2 2 typeWords (d .kind) refl))
+
+heading-size : (h : Heading) → size (headingWords h) ≤ 23
+unfolding headingWords
+heading-size h =
+    rw (length-inLetters 4 (h .centre), length-group (h .sent))
+    (omega (arith, designator-most (h .designator), size-pick (eqb (h .correction) 0) [] ((67 ∷ 67 ∷ h .correction ∷ []) ∷ []) 4 zero-le (lit≤ tt)))
+
+-- The first line.
+
+letter-most : (l : ℕ) → length (letterOf l) ≤ 1
+letter-most l = go (eqb l 0)
+  where
+    go : (b : Bool) → length (pick b [] (l ∷ [])) ≤ 1
+    go true = zero-le
+    go false = lit≤ tt
+
+sequence-digits : (s : Sequence) → goodSequence s ≡ true → s .digits ≤ 3
+unfolding goodSequence
+sequence-digits s g =
+    either-cases (both (eqb (s .letter) 0) (between 1 3 (s .digits))) (both (letter (s .letter)) (between 1 2 (s .digits)))
+    (both-left (characters s) (both (ltb 0 (s .number)) (ltb (s .number) (10 ^ s .digits))) g)
+    (λ e. between-high 1 3 (s .digits) (both-right (eqb (s .letter) 0) (between 1 3 (s .digits)) e))
+    (λ e. omega (arith, between-high 1 2 (s .digits) (both-right (letter (s .letter)) (between 1 2 (s .digits)) e)))
+
+sequence-most : (s : Sequence) → goodSequence s ≡ true → length (spellSequence s) ≤ 4
+unfolding spellSequence
+sequence-most s g =
+    rw (length-append (letterOf (s .letter)), length-inFigures (s .digits) (s .number))
+    (omega (arith, letter-most (s .letter), sequence-digits s g))
+
+length-office : (o : ℕ) → length (spellOffice o) ≡ 5
+length-office o = rw (length-append (inLetters 4 o), length-inLetters 4 o)
+
+first-size : (l : FirstLine) → goodSequence (l .sequence) ≡ true → size (lineWords l) ≤ 43
+unfolding lineWords
+first-size l g =
+    rw (length-inLetters 4 (l .unit), length-period (l .valid), length-office (l .office))
+    (omega (arith, sequence-most (l .sequence) g))
+
+-- The area.
+
+onto-size : (x : ℕ) (ws : List (List ℕ)) → 0 < length ws → size (onto x ws) ≡ suc (size ws)
+onto-size x [] h = absurd (not-suc-le-zero h)
+onto-size x (w ∷ ws) h = omega arith
+
+pieces-size : (t : List ℕ) → size (pieces t) ≡ suc (length t)
+unfolding pieces
+pieces-size [] = refl
+pieces-size (x ∷ xs) = by (eqb x 32)
+    (λ e. rw e (omega (arith, pieces-size xs)))
+    (λ e. rw e (omega (arith, onto-size x (pieces xs) (pieces-some xs), pieces-size xs)))
+
+name-size : (n : Name) → size (nameWords n) ≤ suc (n .count)
+name-size n = omega (arith, pieces-size (take (n .count) (n .bytes)), length-take (n .count) (n .bytes))
+
+name-count : (mountain : Bool) (limit : ℕ) (n : Name) → goodName mountain limit n ≡ true → n .count ≤ limit
+unfolding goodName
+name-count mountain limit n g =
+    between-high 1 limit (n .count)
+    (both-left (between 1 limit (n .count)) (both (unusedZero n) (nameText mountain (take (n .count) (n .bytes)))) g)
+
+closing-most : (n : ℕ) → length (numbered 1 closingWords n) ≤ 7
+unfolding closingWords allOf
+closing-most n = numbered-most 7 1 closingWords n refl
+
+area-size : (a : Area) → goodArea a ≡ true → size (areaWords a) ≤ 64
+unfolding areaWords goodArea
+area-size a g =
+    let named : goodName false nameBytes (a .name) ≡ true =
+    both-left (goodName false nameBytes (a .name)) (goodClosing (a .closing))
+    (both-right (goodLetters 4 (a .indicator)) (both (goodName false nameBytes (a .name)) (goodClosing (a .closing))) g) in
+    rw (length-inLetters 4 (a .indicator), size-append (nameWords (a .name)) (numbered 1 closingWords (a .closing) ∷ []))
+    (omega (arith, name-size (a .name), name-count false nameBytes (a .name) named, closing-most (a .closing)))
+
+-- A point, and a location.
+
+coordinate-most : (a : Axis) (c : Coordinate) → length (spellCoordinate a c) ≤ a .width + 3
+unfolding spellCoordinate
+coordinate-most a c =
+    rw (length-append (inFigures (a .width) (c .degrees)), length-inFigures (a .width) (c .degrees))
+    (omega (arith, go (eqb (c .digits) (a .width))))
+  where
+    go : (b : Bool) → length (pick b [] (inFigures 2 (c .minutes))) ≤ 2
+    go true = zero-le
+    go false = omega (arith, length-inFigures 2 (c .minutes))
+
+point-size : (p : Point) → size (pointWords p) ≤ 13
+point-size p = omega (arith, coordinate-most northSouth (p .latitude), coordinate-most eastWest (p .longitude))
+
+side-size : (a : Axis) (s : Side) → size (sideWords a s) ≤ a .width + 9
+side-size a s = omega (arith, coordinate-most a (s .at))
+
+bound-size : (b : Bound) → size (boundWords b) ≤ 27
+unfolding boundWords
+bound-size b =
+    let one : List (List ℕ) = sideWords eastWest (b .longitude) in
+    let two : List (List ℕ) = sideWords northSouth (b .latitude) in
+    let rest : List (List ℕ) = pick (emptySide (b .longitude)) [] (bytes "AND" ∷ one) in
+    let east : size one ≤ 12 = side-size eastWest (b .longitude) in
+    let north : size two ≤ 11 = side-size northSouth (b .latitude) in
+    let more : size rest ≤ 16 = size-pick (emptySide (b .longitude)) [] (bytes "AND" ∷ one) 16 zero-le (omega arith) in
+    size-pick (emptySide (b .latitude)) one (two ++ rest) 27 (omega arith) (rw (size-append two rest) (omega arith))
+
+dashed-size : (ps : List Point) → size (dashed ps) ≤ length ps * 15
+unfolding dashed
+dashed-size [] = zero-le
+dashed-size (p ∷ ps) = omega (arith, size-append (pointWords p) (dashed ps), point-size p, dashed-size ps)
+
+joined-size : (ps : List Point) → size (joined ps) ≤ length ps * 15
+unfolding joined
+joined-size [] = zero-le
+joined-size (p ∷ ps) = omega (arith, size-append (pointWords p) (dashed ps), point-size p, dashed-size ps)
+
+outline-most : (n : ℕ) (ps : List Point) → goodOutline n ps ≡ true → n ≤ 7
+unfolding goodOutline
+outline-most n ps g =
+    between-high leastPoints mostPoints n
+    (both-left (between leastPoints mostPoints n)
+    (both (eqb (length ps) mostPoints)
+    (both (allOf goodPoint (take n ps)) (both (eqb (closingPoint ps) (n - 1)) (allOf emptyPoint (drop n ps)))))
+    g)
+
+located-size : (closing : ℕ) (l : Location) (ps : List Point) → locatedBy l ps ≡ true → size (locationWords closing l ps) ≤ 108
+located-size closing Nowhere ps g = zero-le
+located-size closing (Bounded b) ps g = omega (arith, bound-size b)
+located-size closing (Outline n) ps g = omega (arith, joined-size (take n ps), length-take n ps, outline-most n ps g)
+located-size closing Entire ps g = go (eqb closing cta)
+  where
+    go : (b : Bool) → size (bytes "ENTIRE" ∷ pick b (bytes "CTA") (bytes "FIR") ∷ []) ≤ 108
+    go true = lit≤ tt
+    go false = lit≤ tt
+
+extent-size : (closing : ℕ) (e : Extent) → goodExtent e ≡ true → size (extentWords closing e) ≤ 108
+unfolding extentWords goodExtent
+extent-size closing e g = located-size closing (e .location) (e .points) g
+
+-- The parts of a report.
+
+empty-count : (n : Name) → emptyName n ≡ true → n .count ≤ mountainLimit
+unfolding emptyName
+empty-count n e = omega (arith, eqb-true (n .count) 0 (both-left (eqb (n .count) 0) (unusedZero n) e))
+
+empty-volcano : (v : Volcano) → emptyVolcano v ≡ true → v .name .count ≤ mountainLimit
+unfolding emptyVolcano
+empty-volcano v e = empty-count (v .name) (both-left (emptyName (v .name)) (emptyPoint (v .position)) e)
+
+good-volcano : (v : Volcano) → goodVolcano v ≡ true → v .name .count ≤ mountainLimit
+unfolding goodVolcano
+good-volcano v g =
+    either-cases (emptyName (v .name)) (goodName true mountainLimit (v .name))
+    (both-left (either (emptyName (v .name)) (goodName true mountainLimit (v .name))) (goodPoint (v .position)) g)
+    (empty-count (v .name))
+    (name-count true mountainLimit (v .name))
+
+volcano-count : (kind n : ℕ) (v : Volcano) → goodPhenomenon kind n v ≡ true → v .name .count ≤ mountainLimit
+unfolding goodPhenomenon
+volcano-count kind n v g =
+    let cloud : Bool = both (eqb n ashCloud) (emptyVolcano v) in
+    let erupts : Bool = both (eqb n eruption) (goodVolcano v) in
+    either-cases (both (eqb kind ws) (both (between 1 15 n) (emptyVolcano v))) (both (eqb kind wv) (either cloud erupts)) g
+    (λ e. empty-volcano v (both-right (between 1 15 n) (emptyVolcano v) (both-right (eqb kind ws) (both (between 1 15 n) (emptyVolcano v)) e)))
+    (λ e. either-cases cloud erupts (both-right (eqb kind wv) (either cloud erupts) e)
+    (λ f. empty-volcano v (both-right (eqb n ashCloud) (emptyVolcano v) f))
+    (λ f. good-volcano v (both-right (eqb n eruption) (goodVolcano v) f)))
+
+phenomena-size : (i : ℕ) → size (getD phenomena i []) ≤ 15
+unfolding phenomena allOf
+phenomena-size i = at-most size 15 phenomena [] zero-le refl i
+
+volcano-size : (v : Volcano) → v .name .count ≤ mountainLimit → size (volcanoWords v) ≤ 58
+volcano-size v h =
+    let more : List (List ℕ) = pointWords (v .position) ++ (bytes "VA" ∷ bytes "CLD" ∷ []) in
+    let mount : size (mountWords v) ≤ 34 =
+    size-pick (emptyName (v .name)) [] (bytes "MT" ∷ nameWords (v .name)) 34 zero-le (omega (arith, name-size (v .name))) in
+    rw (size-append (mountWords v) (bytes "PSN" ∷ more), size-append (pointWords (v .position)) (bytes "VA" ∷ bytes "CLD" ∷ []))
+    (omega (arith, point-size (v .position)))
+
+phenomenon-size : (kind n : ℕ) (v : Volcano) → goodPhenomenon kind n v ≡ true → size (phenomenonWords n v) ≤ 73
+unfolding phenomenonWords
+phenomenon-size kind n v g =
+    rw (size-append (getD phenomena (n - 1) []) (pick (eqb n eruption) (volcanoWords v) []))
+    (omega (
+      arith,
+      phenomena-size (n - 1),
+      size-pick (eqb n eruption) (volcanoWords v) [] 58 (volcano-size v (volcano-count kind n v g)) zero-le,
+    ))
+
+observation-size : (o : Observation) → size (observationWords o) ≤ 14
+unfolding observationWords
+observation-size o =
+    omega (
+      arith,
+      go (eqb (o .word) 1),
+      size-pick (o .timed) (bytes "AT" ∷ spellTime (o .time) ∷ []) [] 9 (omega (arith, length-time (o .time))) zero-le,
+    )
+  where
+    go : (b : Bool) → length (pick b (bytes "OBS") (bytes "FCST")) ≤ 4
+    go true = lit≤ tt
+    go false = lit≤ tt
+
+feet-most : (n : ℕ) → feetFigures n ≤ 5
+feet-most n = go (ltb n 10000)
+  where
+    go : (b : Bool) → pick b 4 5 ≤ 5
+    go true = lit≤ tt
+    go false = lit≤ tt
+
+flight-length : (n : ℕ) → length (spellLevelWord (Flight n)) ≡ 5
+unfolding spellLevelWord
+flight-length n = rw (length-inFigures 3 n)
+
+level-size : (l : Level) → size (levelWords l) ≤ 20
+unfolding levelWords spellLevelWord
+level-size NoLevel = zero-le
+level-size (Flight n) = omega (arith, flight-length n)
+level-size (SurfaceFlight n) = omega (arith, length-inFigures 3 n)
+level-size (SurfaceMetres n) = omega (arith, length-append (inFigures 4 n) (bytes "M"), length-inFigures 4 n)
+level-size (SurfaceFeet n) = omega (arith, length-append (inFigures (feetFigures n) n) (bytes "FT"), length-inFigures (feetFigures n) n, feet-most n)
+level-size (Band low high) = omega (arith, length-append (inFigures 3 low) (47 ∷ inFigures 3 high), length-inFigures 3 low, length-inFigures 3 high)
+level-size (TopFlight n) = omega (arith, flight-length n)
+level-size (AboveFlight n) = omega (arith, flight-length n)
+level-size (TopAboveFlight n) = omega (arith, flight-length n)
+
+compass-most : (n : ℕ) → length (spellCompass n) ≤ 3
+unfolding compassWords allOf
+compass-most n = word-most 3 compassWords n refl
+
+intensity-most : (n : ℕ) → length (spellIntensity n) ≤ 5
+unfolding intensityWords allOf
+intensity-most n = numbered-most 5 1 intensityWords n refl
+
+speed-most : (s : Speed) → length (spellSpeed s) ≤ 5
+unfolding spellSpeed unitWords allOf
+speed-most s =
+    rw (length-append (inFigures 2 (s .value)), length-inFigures 2 (s .value))
+    (omega (arith, numbered-most 3 1 unitWords (s .unit) refl))
+
+ending-size : (kind : ℕ) (end : Time) (closing : ℕ) (e : Ending) (f : Extent) → goodEnding kind e f ≡ true → size (endingWords end closing e f) ≤ 128
+unfolding endingWords goodEnding
+ending-size kind end closing NoEnding f g = zero-le
+ending-size kind end closing (Moving d s i) f g = omega (arith, compass-most d, speed-most s, intensity-most i)
+ending-size kind end closing (Stationary i) f g = omega (arith, intensity-most i)
+ending-size kind end closing (Forecast i) f g =
+    omega (
+      arith,
+      intensity-most i,
+      length-time end,
+      extent-size closing f (both-right (both (eqb kind ws) (goodIntensity i)) (goodExtent f) g),
+    )
+
+report-size : (kind : ℕ) (end : Time) (closing : ℕ) (r : Report) → goodReport kind r ≡ true → size (reportWords end closing r) ≤ 343
+unfolding reportWords goodReport
+report-size kind end closing r g =
+    let p : List (List ℕ) = phenomenonWords (r .phenomenon) (r .volcano) in
+    let o : List (List ℕ) = observationWords (r .observation) in
+    let e : List (List ℕ) = extentWords closing (r .extent) in
+    let l : List (List ℕ) = levelWords (r .level) in
+    let f : List (List ℕ) = endingWords end closing (r .ending) (r .forecast) in
+    let four : Bool = both (goodLevel (r .level)) (goodEnding kind (r .ending) (r .forecast)) in
+    let three : Bool = both (goodExtent (r .extent)) four in
+    let two : Bool = both (goodObservation (r .observation)) three in
+    let g₂ : two ≡ true = both-right (goodPhenomenon kind (r .phenomenon) (r .volcano)) two g in
+    let g₃ : three ≡ true = both-right (goodObservation (r .observation)) three g₂ in
+    let g₄ : four ≡ true = both-right (goodExtent (r .extent)) four g₃ in
+    rw (size-append p (o ++ (e ++ (l ++ f))), size-append o (e ++ (l ++ f)), size-append e (l ++ f), size-append l f)
+    (omega (
+      arith,
+      phenomenon-size kind (r .phenomenon) (r .volcano) (both-left (goodPhenomenon kind (r .phenomenon) (r .volcano)) two g),
+      observation-size (r .observation),
+      extent-size closing (r .extent) (both-left (goodExtent (r .extent)) four g₃),
+      level-size (r .level),
+      ending-size kind end closing (r .ending) (r .forecast) (both-right (goodLevel (r .level)) (goodEnding kind (r .ending) (r .forecast)) g₄),
+    ))
+
+-- The whole.
+
+tests-size : (i : ℕ) → size (getD testTexts i []) ≤ 46
+unfolding testTexts allOf
+tests-size i = at-most size 46 testTexts [] zero-le refl i
+
+form-size : (kind : ℕ) (r : Record) (f : Form) → goodForm kind (r .line) (r .report) f ≡ true → size (formWords r f) ≤ 343
+unfolding formWords goodForm
+form-size kind r NoForm g = zero-le
+form-size kind r (Test n) g = omega (arith, tests-size (n - 1))
+form-size kind r (Cancellation s from) g =
+    let named : goodCancellation (r .line) s from ≡ true = both-left (goodCancellation (r .line) s from) (emptyReport (r .report)) g in
+    omega (
+      arith,
+      sequence-most s (both-left (goodSequence s) (both (goodGroup from) (not (namesItself (r .line) s from))) named),
+      length-period (record { from = from; to = r .line .valid .to }),
+    )
+form-size kind r Reported g = report-size kind (timeOfDay (r .line .valid .to)) (r .area .closing) (r .report) g
+
+text-length : (r : Record) → length (textOf r) ≤ size (headingWords (r .heading)) + size (lineWords (r .line)) + size (bodyWords r) + 5
+unfolding textOf
+text-length r =
+    let h : List ℕ = line (headingWords (r .heading)) in
+    let l : List ℕ = line (lineWords (r .line)) in
+    let b : List ℕ = line (bodyWords r) in
+    rw (length-append h, length-append l, length-append b)
+    (omega (arith, line-size (headingWords (r .heading)), line-size (lineWords (r .line)), line-size (bodyWords r)))
+
+-- "24 text over 2,048 bytes" is never given with the limits of today
+pub text-fits : (r : Record) → good r ≡ true → length (textOf r) ≤ 2048
+unfolding good goodLine bodyWords
+text-fits r g =
+    let form : Bool = goodForm (r .heading .designator .kind) (r .line) (r .report) (r .form) in
+    let two : Bool = both (goodArea (r .area)) form in
+    let one : Bool = both (goodLine (r .line)) two in
+    let g₁ : one ≡ true = both-right (goodHeading (r .heading)) one g in
+    let g₂ : two ≡ true = both-right (goodLine (r .line)) two g₁ in
+    let numbers : Bool = both (goodPeriod (r .line .valid)) (goodLetters 4 (r .line .office)) in
+    let sequence : goodSequence (r .line .sequence) ≡ true =
+    both-left (goodSequence (r .line .sequence)) numbers
+    (both-right (goodLetters 4 (r .line .unit)) (both (goodSequence (r .line .sequence)) numbers) (both-left (goodLine (r .line)) two g₁)) in
+    omega (
+      arith,
+      text-length r,
+      heading-size (r .heading),
+      first-size (r .line) sequence,
+      size-append (areaWords (r .area)) (formWords r (r .form)),
+      area-size (r .area) (both-left (goodArea (r .area)) form g₂),
+      form-size (r .heading .designator .kind) r (r .form) (both-right (goodArea (r .area)) form g₂),
+    )
+
+pub never-24 : (r : Record) (buffer : List ℕ) → writeOf r buffer .number ≡ 24 → ⊥
+unfolding writeOf
+never-24 r buffer e =
+    by (good r)
+    (λ g. by (ltb (length buffer) (length (textOf r)))
+    (λ t. let z : _≡_ {A = ℕ} 14 24 = rw (g, le-ltb 2048 (length (textOf r)) (text-fits r g), t) at e in omega arith)
+    (λ f. let z : _≡_ {A = ℕ} 0 24 = rw (g, le-ltb 2048 (length (textOf r)) (text-fits r g), f) at e in omega arith))
+    (λ f. let z : _≡_ {A = ℕ} 13 24 = rw f at e in omega arith)
