@@ -176,7 +176,7 @@ outlined-good first ps p g q room least isOpen s =
     let points : allOf goodPoint qs ≡ true = all-append goodPoint (first ∷ ps) (p ∷ []) ∙ rw (g, q) in
     let past : indexOf (samePoint first) (ps ++ (p ∷ replicate m noPoint)) ≡ length ps = index-past (samePoint first) ps (p ∷ replicate m noPoint) isOpen ∙ rw s (omega arith) in
     let closing : closingPoint (qs ++ replicate m noPoint) ≡ n - 1 =
-        rw (append-assoc ps (p ∷ []) (replicate m noPoint)) (omega arith) in
+    rw (append-assoc ps (p ∷ []) (replicate m noPoint)) (omega arith) in
     let front : allOf goodPoint (take n (qs ++ replicate m noPoint)) ≡ true = ap (allOf goodPoint) (take-at qs (replicate m noPoint) n refl) ∙ points in
     let back : allOf emptyPoint (drop n (qs ++ replicate m noPoint)) ≡ true = ap (allOf emptyPoint) (drop-at qs (replicate m noPoint) n refl) ∙ (all-replicate emptyPoint m noPoint no-point-empty) in
     both-true (both-true low high)

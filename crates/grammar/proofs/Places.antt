@@ -63,26 +63,26 @@ grown site p w vs e k = rw (e, k) (onward-last (locationPart site) (placingWords
 module _
     (level-sound : (q : ToLocation) (w : List ℕ) → Ok (atLevel q) → Fine (atLevel q) w (step (atLevel q) w))
     (forecast-end : (l : ToLevel) (i : ℕ) (f : Extent) → ForecastOk l i → goodExtent f ≡ true
-        → (good (reportOf l (Forecast i) f) ≡ true)
-        × (toldRecord (reportOf l (Forecast i) f) ≡ onward 11 (extentWords (areaOf l .area .closing) f) (toldSite (inForecast l i))))
+    → (good (reportOf l (Forecast i) f) ≡ true)
+    × (toldRecord (reportOf l (Forecast i) f) ≡ onward 11 (extentWords (areaOf l .area .closing) f) (toldSite (inForecast l i))))
   where
-  settled-sound : (site : Site) (p : Placing) (w : List ℕ) {m : Placed} → SiteOk site → PlaceFine (closingAt site) p w m → Fine (atPlace site p) w (settled site w m)
-  unfolding step told
-  settled-sound site p w ok (goesOn {next} f) = leads {next = atPlace site next} (record { ok = (ok, f .ok); tells = grown site p w (placingWords next) (f .words) (f .part site) })
-  settled-sound (inReport o) p w ok (isThere {e} f) =
-      leads {next = after (inReport o) e} (record { ok = record { before = ok; extent = f .isGood }; tells = grown (inReport o) p w (extentWords (closingAt (inReport o)) e) (f .words) (f .part (inReport o)) })
-  settled-sound (inForecast l i) p w ok (isThere {e} f) =
-      leads {next = after (inForecast l i) e}
-      (record { ok = forecast-end l i e ok (f .isGood) .0; tells = forecast-end l i e ok (f .isGood) .1 ∙ grown (inForecast l i) p w (extentWords (closingAt (inForecast l i)) e) (f .words) (f .part (inForecast l i)) })
-  settled-sound (inReport o) p w ok (isPast {e} f) =
-      fine-as (atPlace (inReport o) p) (after (inReport o) e) (rw (f .words)) (sym (f .part (inReport o))) (level-sound (record { before = o; extent = e }) w (record { before = ok; extent = f .isGood }))
-  settled-sound (inForecast l i) p w ok (isPast {e} f) =
-      fine-as (atPlace (inForecast l i) p) (after (inForecast l i) e) (forecast-end l i e ok (f .isGood) .1 ∙ rw (f .words)) (sym (f .part (inForecast l i)))
-      (fine-end (reportOf l (Forecast i) e) w (forecast-end l i e ok (f .isGood) .0))
-  settled-sound site p w ok isNowhere = dies
+    settled-sound : (site : Site) (p : Placing) (w : List ℕ) {m : Placed} → SiteOk site → PlaceFine (closingAt site) p w m → Fine (atPlace site p) w (settled site w m)
+    unfolding step told
+    settled-sound site p w ok (goesOn {next} f) = leads {next = atPlace site next} (record { ok = (ok, f .ok); tells = grown site p w (placingWords next) (f .words) (f .part site) })
+    settled-sound (inReport o) p w ok (isThere {e} f) =
+        leads {next = after (inReport o) e} (record { ok = record { before = ok; extent = f .isGood }; tells = grown (inReport o) p w (extentWords (closingAt (inReport o)) e) (f .words) (f .part (inReport o)) })
+    settled-sound (inForecast l i) p w ok (isThere {e} f) =
+        leads {next = after (inForecast l i) e}
+        (record { ok = forecast-end l i e ok (f .isGood) .0; tells = forecast-end l i e ok (f .isGood) .1 ∙ grown (inForecast l i) p w (extentWords (closingAt (inForecast l i)) e) (f .words) (f .part (inForecast l i)) })
+    settled-sound (inReport o) p w ok (isPast {e} f) =
+        fine-as (atPlace (inReport o) p) (after (inReport o) e) (rw (f .words)) (sym (f .part (inReport o))) (level-sound (record { before = o; extent = e }) w (record { before = ok; extent = f .isGood }))
+    settled-sound (inForecast l i) p w ok (isPast {e} f) =
+        fine-as (atPlace (inForecast l i) p) (after (inForecast l i) e) (forecast-end l i e ok (f .isGood) .1 ∙ rw (f .words)) (sym (f .part (inForecast l i)))
+        (fine-end (reportOf l (Forecast i) e) w (forecast-end l i e ok (f .isGood) .0))
+    settled-sound site p w ok isNowhere = dies
 
-  pub place-sound : (site : Site) (p : Placing) (w : List ℕ) → SiteOk site → PlacingOk p → Fine (atPlace site p) w (stepPlace site p w)
-  place-sound site p w ok placed = settled-sound site p w ok (place-fine (closingAt site) p w placed)
+    pub place-sound : (site : Site) (p : Placing) (w : List ℕ) → SiteOk site → PlacingOk p → Fine (atPlace site p) w (stepPlace site p w)
+    place-sound site p w ok placed = settled-sound site p w ok (place-fine (closingAt site) p w placed)
 
 -- Live.
 
@@ -175,10 +175,10 @@ module _ (ending : (l : ToLevel) → LevelOk l → Next (atEnding l)) where
     latitude-next (suc more) ps placed h =
         by (leb leastPoints (length ps + 1)) (λ e. shut-latitude ps placed (leb-true leastPoints (length ps + 1) e))
         (λ e.
-          let few : length ps + 1 < leastPoints = leb-false leastPoints (length ps + 1) e in
-          let r : either (roomAfter ps) (sameLatitude ps (north 0)) ≡ true = either-left _ (lt-ltb (length ps + 1) mostPoints (omega arith)) in
-          by-word (atLatitude ps) (atLongitude ps (north 0)) (spellCoordinate northSouth (north 0)) (latitude-on (closingAt site) ps (north 0) north-zero r) refl
-          (early-longitude ps (north 0) (placed, north-zero, r) few (λ qs k l. latitude-next more qs k (omega arith))))
+        let few : length ps + 1 < leastPoints = leb-false leastPoints (length ps + 1) e in
+        let r : either (roomAfter ps) (sameLatitude ps (north 0)) ≡ true = either-left _ (lt-ltb (length ps + 1) mostPoints (omega arith)) in
+        by-word (atLatitude ps) (atLongitude ps (north 0)) (spellCoordinate northSouth (north 0)) (latitude-on (closingAt site) ps (north 0) north-zero r) refl
+        (early-longitude ps (north 0) (placed, north-zero, r) few (λ qs k l. latitude-next more qs k (omega arith))))
 
     longitude-next : (ps : List Point) (latitude : Coordinate) → PlacingOk (atLongitude ps latitude) → Next (atPlace site (atLongitude ps latitude))
     longitude-next ps latitude placed =
@@ -299,20 +299,20 @@ module _ (site : Site) (w : List ℕ) (ws : List (List ℕ)) (n : is "AND" w ≡
   bound-on latitude longitude g =
       by (emptySide latitude)
       (λ e.
-        let h : goodSide eastWest longitude ≡ true = rw e at g in
-        let i : latitude ≡ noSide = no-side latitude e in
-        rw (e, i) (longitude-words site atLocation noSide longitude (w ∷ ws) h (east-west (closingAt site) (longitude .of) (side-parts eastWest longitude h .0))))
+      let h : goodSide eastWest longitude ≡ true = rw e at g in
+      let i : latitude ≡ noSide = no-side latitude e in
+      rw (e, i) (longitude-words site atLocation noSide longitude (w ∷ ws) h (east-west (closingAt site) (longitude .of) (side-parts eastWest longitude h .0))))
       (λ e.
-        let h : both (goodSide northSouth latitude) (either (emptySide longitude) (goodSide eastWest longitude)) ≡ true = rw e at g in
-        let k : goodSide northSouth latitude ≡ true = both-left _ _ h in
-        by (emptySide longitude)
-        (λ f. rw (e, f, no-side longitude f) (latitude-words site latitude (w ∷ ws) k ∙ walk-past site latitude w ws n))
-        (λ f.
-          let m : goodSide eastWest longitude ≡ true = rw f at (both-right (goodSide northSouth latitude) (either (emptySide longitude) (goodSide eastWest longitude)) h) in
-          rw (e, f)
-          (latitude-words site latitude (bytes "AND" ∷ (sideWords eastWest longitude ++ (w ∷ ws))) k
-          ∙ (walk-on site (atAnd latitude) (bytes "AND") (sideWords eastWest longitude ++ (w ∷ ws)) (atSecondBound latitude) refl
-          ∙ longitude-words site (atSecondBound latitude) latitude longitude (w ∷ ws) m (second (closingAt site) (longitude .of) latitude (side-parts eastWest longitude m .0))))))
+      let h : both (goodSide northSouth latitude) (either (emptySide longitude) (goodSide eastWest longitude)) ≡ true = rw e at g in
+      let k : goodSide northSouth latitude ≡ true = both-left _ _ h in
+      by (emptySide longitude)
+      (λ f. rw (e, f, no-side longitude f) (latitude-words site latitude (w ∷ ws) k ∙ walk-past site latitude w ws n))
+      (λ f.
+      let m : goodSide eastWest longitude ≡ true = rw f at (both-right (goodSide northSouth latitude) (either (emptySide longitude) (goodSide eastWest longitude)) h) in
+      rw (e, f)
+      (latitude-words site latitude (bytes "AND" ∷ (sideWords eastWest longitude ++ (w ∷ ws))) k
+      ∙ (walk-on site (atAnd latitude) (bytes "AND") (sideWords eastWest longitude ++ (w ∷ ws)) (atSecondBound latitude) refl
+      ∙ longitude-words site (atSecondBound latitude) latitude longitude (w ∷ ws) m (second (closingAt site) (longitude .of) latitude (side-parts eastWest longitude m .0))))))
 
   located : (l : Location) (ps : List Point) → locatedBy l ps ≡ true
       → walk (goes (atPlace site atLocation)) (locationWords (closingAt site) l ps ++ (w ∷ ws)) ≡ walk (goes (after site (record { location = l; points = ps }))) (w ∷ ws)
@@ -392,12 +392,12 @@ unfolding goodBound boundWords allOf allowed
 bound-plain latitude longitude g =
     by (emptySide latitude) (λ e. rw e (side-plain eastWest longitude refl refl (rw e at g)))
     (λ e.
-      let h : both (goodSide northSouth latitude) (either (emptySide longitude) (goodSide eastWest longitude)) ≡ true = rw e at g in
-      let front : allOf plainWord (sideWords northSouth latitude) ≡ true = side-plain northSouth latitude refl refl (both-left _ _ h) in
-      by (emptySide longitude) (λ f. rw (e, f) front)
-      (λ f.
-        let m : goodSide eastWest longitude ≡ true = rw f at (both-right (goodSide northSouth latitude) (either (emptySide longitude) (goodSide eastWest longitude)) h) in
-        rw (e, f) (all-append plainWord (sideWords northSouth latitude) (bytes "AND" ∷ sideWords eastWest longitude) ∙ both-true front (side-plain eastWest longitude refl refl m))))
+    let h : both (goodSide northSouth latitude) (either (emptySide longitude) (goodSide eastWest longitude)) ≡ true = rw e at g in
+    let front : allOf plainWord (sideWords northSouth latitude) ≡ true = side-plain northSouth latitude refl refl (both-left _ _ h) in
+    by (emptySide longitude) (λ f. rw (e, f) front)
+    (λ f.
+    let m : goodSide eastWest longitude ≡ true = rw f at (both-right (goodSide northSouth latitude) (either (emptySide longitude) (goodSide eastWest longitude)) h) in
+    rw (e, f) (all-append plainWord (sideWords northSouth latitude) (bytes "AND" ∷ sideWords eastWest longitude) ∙ both-true front (side-plain eastWest longitude refl refl m))))
 
 location-plain : (closing : ℕ) (l : Location) (ps : List Point) → locatedBy l ps ≡ true → allOf plainWord (locationWords closing l ps) ≡ true
 unfolding allOf allowed
