@@ -6,3 +6,4 @@ pub mod NumberLaws
 pub mod PlaceLaws
 pub mod Outlines
 pub mod Places
+pub mod Extents

@@ -6,19 +6,19 @@ use mathlib.Core.Path.{_≡_, refl, ap, sym, _∙_}
 use Prim.Native.Char.{code}
 use Prim.Native.Nat.{ℕ, zero, suc, _+_, _-_, _≤_, _<_}
 use native.Mathlib.Omega.{arith}
-use lib.Dec.{eqb, leb, ltb}
+use lib.Dec.{eqb}
 use lib.IntN.{ℤ, pos, natAbs, _-ℤ_, +ℤ-idr}
 use lib.ListN.{length, take, drop, getD, replicate, length-append, length-drop, take-append-drop}
 use lib.Seq.{length-take-le, take-suc}
-use borrow.Author.Tests.{le-leb, lt-ltb, eq-eqb, ne-eqb, eqb-true, eqb-false, not-true}
+use borrow.Author.Tests.{le-leb, lt-ltb, eq-eqb, ne-eqb, eqb-true, not-true}
 use Rattle.lists.specs.Choice.{both, either}
 use Rattle.lists.specs.Lists.{indexOf, allOf, same}
 use Rattle.lists.specs.Text.{bytes}
-use Rattle.lists.proofs.Choice.{by, clash, both-left, both-right, both-true, both-false-left, both-false-right, either-left, either-right, either-false, either-cases}
+use Rattle.lists.proofs.Choice.{by, both-left, both-right, both-true, both-false-left, both-false-right, either-left, either-right, either-false}
 use Rattle.lists.proofs.Lists.{all-append, index-clear, index-found}
 use Rattle.words.specs.Bytes.{between}
 use Rattle.words.proofs.Ranges.{between-low, between-high}
-use Rattle.coordinates.specs.Coordinates.{northSouth, eastWest, coordinateOf, goodCoordinate, spellCoordinate, signedOf}
+use Rattle.coordinates.specs.Coordinates.{northSouth, eastWest, goodCoordinate, spellCoordinate, signedOf}
 use Rattle.coordinates.specs.Points.{apart, samePoint, goodPoint, emptyPoint, noPoint, pointWords}
 use Rattle.coordinates.specs.declared.Coordinate.{Coordinate}
 use Rattle.coordinates.specs.declared.Point.{Point}
@@ -30,7 +30,7 @@ use Rattle.message.specs.Limits.{leastPoints, mostPoints}
 use Rattle.message.specs.Locations.{closingPoint, goodOutline, joined}
 use Rattle.message.specs.declared.Extent.{Extent}
 use Rattle.message.specs.declared.Location.the-variants.{Outline}
-use Rattle.grammar.specs.Placing.{Placed, closes, sameLatitude, roomAfter, pointed, placeStep}
+use Rattle.grammar.specs.Placing.{closes, sameLatitude, roomAfter, pointed, placeStep}
 use Rattle.grammar.specs.Placing.Placed.{on, there}
 use Rattle.grammar.specs.Records.{outlined}
 use Rattle.grammar.specs.Runs.{walk}
@@ -39,7 +39,7 @@ use Rattle.grammar.specs.States.Placing.{atLatitude, atLongitude, atDash
 use Rattle.grammar.specs.States.State.{atPlace}
 use Rattle.grammar.specs.States.Move.{goes}
 use Rattle.grammar.specs.Steps.{closingAt, after, settled, step}
-use Rattle.grammar.proofs.Invariant.{unclosed, OutlineOk}
+use Rattle.grammar.proofs.Invariant.{unclosed}
 use Rattle.grammar.proofs.Moves.{walk-step}
 use Rattle.grammar.proofs.PlaceLaws.{joined-last}
 use Rattle.grammar.proofs.Told.{trailed}
