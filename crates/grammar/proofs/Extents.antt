@@ -40,7 +40,7 @@ use Rattle.grammar.specs.Steps.{closingAt, after, step}
 use Rattle.grammar.proofs.Invariant.{letterOn}
 use Rattle.grammar.proofs.Outlines.{walk-on, walk-there, outline-on, empty-points, Outlined, outline-told}
 
--- Forth: the words of a good location lead through it.
+-- Forth: they lead through it. First, what a good location is made of.
 
 no-points : (ps : List Point) → noPoints ps ≡ true → ps ≡ noExtent .points
 unfolding noPoints
@@ -175,13 +175,15 @@ side-plain : (a : Axis) (s : Side) → letter (a .plus) ≡ true → letter (a .
 unfolding allOf allowed
 side-plain a s p m g =
     let parts : (letterOn a (s .of) ≡ true) × (goodCoordinate a (s .at) ≡ true) = side-parts a s g in
-    let l : letter (s .of) ≡ true = either-cases (eqb (s .of) (a .plus)) (eqb (s .of) (a .minus)) (parts .0) (λ e. rw (eqb-true (s .of) (a .plus) e) p) (λ e. rw (eqb-true (s .of) (a .minus) e) m) in
+    let l : letter (s .of) ≡ true =
+    either-cases (eqb (s .of) (a .plus)) (eqb (s .of) (a .minus)) (parts .0) (λ e. rw (eqb-true (s .of) (a .plus) e) p) (λ e. rw (eqb-true (s .of) (a .minus) e) m) in
     both-true (plain-cons (s .of) [] (letter-plain (s .of) l) refl) (both-true (spell-plain a p m (s .at) (parts .1)) refl)
 
 point-plain : (p : Point) → goodPoint p ≡ true → allOf plainWord (pointWords p) ≡ true
 unfolding allOf goodPoint
 point-plain p g =
-    both-true (latitude-plain (p .latitude) (both-left _ _ g)) (both-true (longitude-plain (p .longitude) (both-right (goodCoordinate northSouth (p .latitude)) (goodCoordinate eastWest (p .longitude)) g)) refl)
+    both-true (latitude-plain (p .latitude) (both-left _ _ g))
+    (both-true (longitude-plain (p .longitude) (both-right (goodCoordinate northSouth (p .latitude)) (goodCoordinate eastWest (p .longitude)) g)) refl)
 
 dashed-plain : (ps : List Point) → allOf goodPoint ps ≡ true → allOf plainWord (dashed ps) ≡ true
 unfolding dashed allOf allowed

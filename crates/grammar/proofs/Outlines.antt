@@ -70,6 +70,12 @@ module _ (closing : ℕ) (ps : List Point) where
     unfolding placeStep pointed
     longitude-there n l = rw (longitude-reads .forth c g, g, n, le-leb leastPoints (length ps + 1) l)
 
+pub first-good : (first : Point) (ps : List Point) → allOf goodPoint (first ∷ ps) ≡ true → (goodCoordinate northSouth (first .latitude) ≡ true) × (goodCoordinate eastWest (first .longitude) ≡ true)
+unfolding allOf goodPoint
+first-good first ps g =
+    let p : goodPoint first ≡ true = both-left (goodPoint first) (allOf goodPoint ps) g in
+    (both-left _ _ p, both-right (goodCoordinate northSouth (first .latitude)) (goodCoordinate eastWest (first .longitude)) p)
+
 -- Which points close an outline, and which do not.
 
 pub closes-latitude : (ps : List Point) (p : Point) → closes ps p ≡ true → sameLatitude ps (p .latitude) ≡ true
@@ -91,7 +97,7 @@ unfolding samePoint
 first-longitude first ps latitude e =
     both-true e (either-left _ (eq-eqb (apart (signedOf (first .longitude)) (signedOf (first .longitude))) 0 (apart-self (signedOf (first .longitude)))))
 
--- `E000` and `E001`: one of them is on another meridian than point 1
+-- `E000`, `E001` and `N00`
 abbrev pub east : ℕ → Coordinate
 east d = record { letter = code "E"; digits = 3; degrees = d; minutes = 0 }
 
@@ -103,18 +109,34 @@ pub east-one : goodCoordinate eastWest (east 1) ≡ true
 unfolding goodCoordinate
 east-one = refl
 
+abbrev pub north : ℕ → Coordinate
+north d = record { letter = code "N"; digits = 2; degrees = d; minutes = 0 }
+
+pub north-zero : goodCoordinate northSouth (north 0) ≡ true
+unfolding goodCoordinate
+north-zero = refl
+
+-- of `E000` and `E001` one is on another meridian than point 1
 pub record Elsewhere (ps : List Point) (latitude : Coordinate) : Type 0 where
   pub longitude : Coordinate
   pub isGood : goodCoordinate eastWest longitude ≡ true
   pub isOpen : closes ps (pointAt latitude longitude) ≡ false
 
 pub elsewhere : (ps : List Point) (latitude : Coordinate) → allOf goodPoint ps ≡ true → Elsewhere ps latitude
-unfolding samePoint goodPoint signedOf allOf
+unfolding samePoint signedOf
 elsewhere [] latitude g = record { longitude = east 0; isGood = east-zero; isOpen = refl }
 elsewhere (first ∷ ps) latitude g =
     by (eqb (natAbs z) 0)
-    (λ e. record { longitude = east 1; isGood = east-one; isOpen = both-false-right (sameLatitude (first ∷ ps) latitude) (rw (apart-none z (pos 0) (rw here (eqb-true (natAbs z) 0 e)))) })
-    (λ e. record { longitude = east 0; isGood = east-zero; isOpen = both-false-right (sameLatitude (first ∷ ps) latitude) (rw here (either-false e (ne-eqb (natAbs z) 21600 (λ n. absurd (omega (arith, small)))))) })
+    (λ e. record {
+      longitude = east 1;
+      isGood = east-one;
+      isOpen = both-false-right (sameLatitude (first ∷ ps) latitude) (rw (apart-none z (pos 0) (rw here (eqb-true (natAbs z) 0 e))));
+    })
+    (λ e. record {
+      longitude = east 0;
+      isGood = east-zero;
+      isOpen = both-false-right (sameLatitude (first ∷ ps) latitude) (rw here (either-false e (ne-eqb (natAbs z) 21600 (λ n. absurd (omega (arith, small))))));
+    })
   where
     z : ℤ
     z = signedOf (first .longitude)
@@ -123,20 +145,7 @@ elsewhere (first ∷ ps) latitude g =
     here = +ℤ-idr z
 
     small : natAbs z ≤ 10800
-    small = signed-range eastWest (first .longitude) (both-right (goodCoordinate northSouth (first .latitude)) (goodCoordinate eastWest (first .longitude)) (both-left (goodPoint first) (allOf goodPoint ps) g))
-
-abbrev pub north : ℕ → Coordinate
-north d = record { letter = code "N"; digits = 2; degrees = d; minutes = 0 }
-
-pub north-zero : goodCoordinate northSouth (north 0) ≡ true
-unfolding goodCoordinate
-north-zero = refl
-
-pub first-good : (first : Point) (ps : List Point) → allOf goodPoint (first ∷ ps) ≡ true → (goodCoordinate northSouth (first .latitude) ≡ true) × (goodCoordinate eastWest (first .longitude) ≡ true)
-unfolding allOf goodPoint
-first-good first ps g =
-    let p : goodPoint first ≡ true = both-left (goodPoint first) (allOf goodPoint ps) g in
-    (both-left _ _ p, both-right (goodCoordinate northSouth (first .latitude)) (goodCoordinate eastWest (first .longitude)) p)
+    small = signed-range eastWest (first .longitude) (first-good first ps g .1)
 
 -- a point in the middle of an open outline does not close it
 pub middle-open : (ps : List Point) (x : Point) (mid : List Point) → unclosed (ps ++ (x ∷ mid)) ≡ true → closes ps x ≡ false
@@ -263,9 +272,9 @@ pub outline-told : (n : ℕ) (ps : List Point) → goodOutline n ps ≡ true →
 unfolding goodOutline
 outline-told n ps t =
     let first : between leastPoints mostPoints n ≡ true = both-left _ _ t in
-    let more = both-right (between leastPoints mostPoints n) (both (eqb (length ps) mostPoints) (both (allOf goodPoint (take n ps)) (both (eqb (closingPoint ps) (n - 1)) (allOf emptyPoint (drop n ps))))) t in
-    let good = both-right (eqb (length ps) mostPoints) (both (allOf goodPoint (take n ps)) (both (eqb (closingPoint ps) (n - 1)) (allOf emptyPoint (drop n ps)))) more in
-    let rest = both-right (allOf goodPoint (take n ps)) (both (eqb (closingPoint ps) (n - 1)) (allOf emptyPoint (drop n ps))) good in
+    let more = both-right (between leastPoints mostPoints n) _ t in
+    let good = both-right (eqb (length ps) mostPoints) _ more in
+    let rest = both-right (allOf goodPoint (take n ps)) _ good in
     outline-parts n ps (between-low leastPoints mostPoints n first) (between-high leastPoints mostPoints n first)
     (eqb-true (length ps) mostPoints (both-left _ _ more)) (both-left _ _ good) (eqb-true (closingPoint ps) (n - 1) (both-left _ _ rest))
     (both-right (eqb (closingPoint ps) (n - 1)) (allOf emptyPoint (drop n ps)) rest)

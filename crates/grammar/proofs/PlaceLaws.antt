@@ -221,8 +221,11 @@ module _ (closing : ℕ) (w : List ℕ) where
       → PlaceFine closing (atLongitude ps latitude) w (pointed ps (record { latitude = latitude; longitude = coordinateOf eastWest w }))
   unfolding pointed goodPoint
   pointed-fine ps latitude ok g h =
-      settle (closes ps p) (λ c. there-if {x = outlined (ps ++ (p ∷ []))} (leb leastPoints (length ps + 1)) (λ l. record { isGood = closed ps ok c l; words = outlined-words closing (ps ++ (p ∷ [])) ∙ told; part = λ site. refl }))
-      (λ c. on-if {next = atDash (ps ++ (p ∷ []))} (roomAfter ps) (λ r. record { ok = (outline-last ps p ok (both-true g h) c r, omega (arith, length-append ps (p ∷ []))); words = told; part = λ site. refl }))
+      settle (closes ps p)
+      (λ c. there-if {x = outlined (ps ++ (p ∷ []))} (leb leastPoints (length ps + 1))
+      (λ l. record { isGood = closed ps ok c l; words = outlined-words closing (ps ++ (p ∷ [])) ∙ told; part = λ site. refl }))
+      (λ c. on-if {next = atDash (ps ++ (p ∷ []))} (roomAfter ps)
+      (λ r. record { ok = (outline-last ps p ok (both-true g h) c r, omega (arith, length-append ps (p ∷ []))); words = told; part = λ site. refl }))
     where
       p : Point
       p = record { latitude = latitude; longitude = coordinateOf eastWest w }

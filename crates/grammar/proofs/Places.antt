@@ -44,12 +44,12 @@ use Rattle.grammar.specs.Steps.{levelled, stepLevel, closingAt, after, s
 use Rattle.grammar.proofs.Invariant.{ObservationOk, LocationOk, LevelOk, ForecastOk, SiteOk, OutlineOk, PlacingOk, Ok, placeMark}
 use Rattle.grammar.proofs.Moves.{Fine, fine-as, fine-end, Next, next-by, next-end}
 use Rattle.grammar.proofs.Moves.Fine.{leads, ends, dies}
-use Rattle.grammar.proofs.Outlines.{pointAt, latitude-on, dash-on, longitude-on, longitude-there, other-latitude, first-latitude, first-longitude, first-good, east, east-zero, north, north-zero, Elsewhere, elsewhere}
+use Rattle.grammar.proofs.Outlines.{pointAt, latitude-on, dash-on, longitude-on, longitude-there, first-good, other-latitude, first-latitude, first-longitude, east, east-zero, north, north-zero, Elsewhere, elsewhere}
 use Rattle.grammar.proofs.PlaceLaws.{PlaceFine, place-fine, outline-last, good-side, no-side-empty, bounded-first, first-side}
 use Rattle.grammar.proofs.PlaceLaws.PlaceFine.{goesOn, isThere, isPast, isNowhere}
 use Rattle.grammar.proofs.Told.{onward, onward-last, placingWords, toldSite, told, toldRecord}
 
--- one more word of a location, behind what was told before it
+-- Sound. One more word of a location stands behind what was told before it.
 grown : (site : Site) (p : Placing) (w : List ℕ) (vs : List (List ℕ)) → vs ≡ placingWords p ++ (w ∷ []) → placeMark site p w ≡ locationPart site
     → onward (locationPart site) vs (toldSite site) ≡ marked (placeMark site p w) w ∷ onward (locationPart site) (placingWords p) (toldSite site)
 grown site p w vs e k = rw (e, k) (onward-last (locationPart site) (placingWords p) w (toldSite site))
@@ -62,14 +62,22 @@ module _
   where
     settled-sound : (site : Site) (p : Placing) (w : List ℕ) {m : Placed} → SiteOk site → PlaceFine (closingAt site) p w m → Fine (atPlace site p) w (settled site w m)
     unfolding step told
-    settled-sound site p w ok (goesOn {next} f) = leads {next = atPlace site next} (record { ok = (ok, f .ok); tells = grown site p w (placingWords next) (f .words) (f .part site) })
+    settled-sound site p w ok (goesOn {next} f) =
+        leads {next = atPlace site next} (record { ok = (ok, f .ok); tells = grown site p w (placingWords next) (f .words) (f .part site) })
     settled-sound (inReport o) p w ok (isThere {e} f) =
-        leads {next = after (inReport o) e} (record { ok = record { before = ok; extent = f .isGood }; tells = grown (inReport o) p w (extentWords (closingAt (inReport o)) e) (f .words) (f .part (inReport o)) })
+        let site : Site = inReport o in
+        leads {next = after site e}
+        (record { ok = record { before = ok; extent = f .isGood }; tells = grown site p w (extentWords (closingAt site) e) (f .words) (f .part site) })
     settled-sound (inForecast l i) p w ok (isThere {e} f) =
-        leads {next = after (inForecast l i) e}
-        (record { ok = forecast-end l i e ok (f .isGood) .0; tells = forecast-end l i e ok (f .isGood) .1 ∙ grown (inForecast l i) p w (extentWords (closingAt (inForecast l i)) e) (f .words) (f .part (inForecast l i)) })
+        let site : Site = inForecast l i in
+        leads {next = after site e}
+        (record {
+          ok = forecast-end l i e ok (f .isGood) .0;
+          tells = forecast-end l i e ok (f .isGood) .1 ∙ grown site p w (extentWords (closingAt site) e) (f .words) (f .part site);
+        })
     settled-sound (inReport o) p w ok (isPast {e} f) =
-        fine-as (atPlace (inReport o) p) (after (inReport o) e) (rw (f .words)) (sym (f .part (inReport o))) (level-sound (record { before = o; extent = e }) w (record { before = ok; extent = f .isGood }))
+        fine-as (atPlace (inReport o) p) (after (inReport o) e) (rw (f .words)) (sym (f .part (inReport o)))
+        (level-sound (record { before = o; extent = e }) w (record { before = ok; extent = f .isGood }))
     settled-sound (inForecast l i) p w ok (isPast {e} f) =
         fine-as (atPlace (inForecast l i) p) (after (inForecast l i) e) (forecast-end l i e ok (f .isGood) .1 ∙ rw (f .words)) (sym (f .part (inForecast l i)))
         (fine-end (reportOf l (Forecast i) e) w (forecast-end l i e ok (f .isGood) .0))
@@ -78,7 +86,7 @@ module _
     pub place-sound : (site : Site) (p : Placing) (w : List ℕ) → SiteOk site → PlacingOk p → Fine (atPlace site p) w (stepPlace site p w)
     place-sound site p w ok placed = settled-sound site p w ok (place-fine (closingAt site) p w placed)
 
--- Live.
+-- Live: from every state inside a location some words lead to the end.
 
 -- a location that ends with this word is good
 ends-good : {closing : ℕ} {p : Placing} {w : List ℕ} {x : Extent} → PlaceFine closing p w (there x) → goodExtent x ≡ true
@@ -107,7 +115,8 @@ module _ (ending : (l : ToLevel) → LevelOk l → Next (atEnding l)) where
   unfolding step placeStep stepLevel walk same levelOf goodLevelWord figuresOf allOf worthAfter
   and-next (inReport o) latitude ok g =
       let q : ToLocation = record { before = o; extent = bounded latitude noSide } in
-      next-by (atPlace (inReport o) (atAnd latitude)) (bytes "FL100") (levelled q (Flight 100)) refl refl (level-next q (record { before = ok; extent = bounded-first latitude g }))
+      next-by (atPlace (inReport o) (atAnd latitude)) (bytes "FL100") (levelled q (Flight 100)) refl refl
+      (level-next q (record { before = ok; extent = bounded-first latitude g }))
   and-next (inForecast l i) latitude ok g = record { word = []; rest = []; message = reportOf l (Forecast i) (bounded latitude noSide); ends = refl; part = refl }
 
   module _ (site : Site) (ok : SiteOk site) where
@@ -121,7 +130,7 @@ module _ (ending : (l : ToLevel) → LevelOk l → Next (atEnding l)) where
     by-last p w x placed e k =
         next-by (atPlace site p) w (after site x) (ap (settled site w) e) k (after-next site x ok (ends-good (rw e at (place-fine (closingAt site) p w placed))))
 
-    -- An outline. From four points on, point 1's own words close it.
+    -- An outline. Once there are points enough, point 1's own words close it.
     shut-longitude : (first : Point) (ps : List Point) (latitude : Coordinate) → PlacingOk (atLongitude (first ∷ ps) latitude) → sameLatitude (first ∷ ps) latitude ≡ true
         → leastPoints ≤ length (first ∷ ps) + 1 → Next (atPlace site (atLongitude (first ∷ ps) latitude))
     shut-longitude first ps latitude placed e h =
@@ -139,7 +148,8 @@ module _ (ending : (l : ToLevel) → LevelOk l → Next (atEnding l)) where
         (shut-longitude first ps (first .latitude) (placed, g, r) s h)
 
     -- a point that does not close it
-    one-more : (ps : List Point) (latitude c : Coordinate) → PlacingOk (atLongitude ps latitude) → goodCoordinate eastWest c ≡ true → closes ps (pointAt latitude c) ≡ false → roomAfter ps ≡ true
+    one-more : (ps : List Point) (latitude c : Coordinate) → PlacingOk (atLongitude ps latitude) → goodCoordinate eastWest c ≡ true
+        → closes ps (pointAt latitude c) ≡ false → roomAfter ps ≡ true
         → ((qs : List Point) → OutlineOk qs → length qs ≡ length ps + 1 → Next (atPlace site (atLatitude qs))) → Next (atPlace site (atLongitude ps latitude))
     unfolding goodPoint
     one-more ps latitude c placed g n r on′ =
@@ -183,7 +193,8 @@ module _ (ending : (l : ToLevel) → LevelOk l → Next (atEnding l)) where
     longitude-bound : (latitude : Side) (side : ℕ) → PlacingOk (atLongitudeBound latitude side) → Next (atPlace site (atLongitudeBound latitude side))
     unfolding placeStep
     longitude-bound latitude side placed =
-        by-last (atLongitudeBound latitude side) (spellCoordinate eastWest (east 0)) (bounded latitude (record { of = side; at = east 0 })) placed (rw (longitude-reads .forth (east 0) east-zero, east-zero)) refl
+        by-last (atLongitudeBound latitude side) (spellCoordinate eastWest (east 0)) (bounded latitude (record { of = side; at = east 0 })) placed
+        (rw (longitude-reads .forth (east 0) east-zero, east-zero)) refl
 
     longitude-of : (latitude : Side) (side : ℕ) → PlacingOk (atLongitudeOf latitude side) → Next (atPlace site (atLongitudeOf latitude side))
     unfolding placeStep same
