@@ -43,7 +43,7 @@ use Rattle.grammar.proofs.Forms.{forth-test, forth-cancellation}
 use Rattle.grammar.proofs.Invariant.{OpeningOk, PhenomenonOk, ObservationOk, LocationOk, LevelOk}
 use Rattle.grammar.proofs.Observations.{observation-first, forth-observation}
 use Rattle.grammar.proofs.Opening.{forth-line}
-use Rattle.grammar.proofs.Places.{extent-first, forth-extent}
+use Rattle.grammar.proofs.Extents.{extent-first, forth-extent}
 use Rattle.grammar.proofs.Weather.{forth-weather}
 
 -- An empty report is the report of no field.

@@ -5,16 +5,15 @@ use mathlib.Core.List.{List, [], _∷_, _++_, append-assoc}
 use mathlib.Core.Path.{_≡_, refl, ap, sym, _∙_}
 use Prim.Native.Nat.{ℕ, zero, suc, _+_, _-_, _≤_, _<_}
 use native.Mathlib.Omega.{arith}
-use lib.Dec.{eqb, leb, ltb, lit<}
+use lib.Dec.{eqb, leb, lit<}
 use lib.ListN.{length, take, drop, getD, replicate, length-append, length-replicate}
 use lib.Seq.{take-at, drop-at}
-use borrow.Author.Tests.{leb-true, le-leb, ltb-true, eq-eqb, not-true}
+use borrow.Author.Tests.{leb-true, le-leb, ltb-true, eq-eqb}
 use Rattle.lists.specs.Choice.{pick, both, either}
 use Rattle.lists.specs.Lists.{allOf, indexOf, same}
 use Rattle.lists.specs.Text.{bytes}
-use Rattle.lists.proofs.Choice.{by, clash, both-left, both-right, both-true, either-left, either-right, either-cases, pick-true, pick-false}
+use Rattle.lists.proofs.Choice.{by, clash, both-left, both-right, both-true, either-left, either-right, either-cases}
 use Rattle.lists.proofs.Lists.{same-is, all-append, index-past}
-use Rattle.words.specs.Bytes.{between}
 use Rattle.figures.proofs.Kept.{reads-spelled}
 use Rattle.coordinates.specs.Coordinates.{Axis, northSouth, eastWest, coordinateOf, goodCoordinate, emptyCoordinate, spellCoordinate}
 use Rattle.coordinates.specs.Points.{samePoint, goodPoint, emptyPoint, noPoint, pointWords}
@@ -23,7 +22,7 @@ use Rattle.coordinates.specs.declared.Point.{Point}
 use Rattle.coordinates.proofs.Axes.{latitude-reads, longitude-reads}
 use Rattle.coordinates.proofs.Goodness.{good-not-empty, no-point-empty}
 use Rattle.message.specs.Limits.{leastPoints, mostPoints}
-use Rattle.message.specs.Locations.{goodSide, emptySide, noSide, goodBound, noPoints, closingPoint, goodOutline, goodExtent, noExtent, sideWords, boundWords, dashed, joined, extentWords}
+use Rattle.message.specs.Locations.{goodSide, emptySide, noSide, goodBound, noPoints, closingPoint, goodOutline, goodExtent, sideWords, boundWords, dashed, joined, extentWords}
 use Rattle.message.specs.declared.Extent.{Extent}
 use Rattle.message.specs.declared.Side.{Side}
 use Rattle.grammar.specs.Numbers.{locationPart, followingPart}
@@ -222,8 +221,11 @@ module _ (closing : ℕ) (w : List ℕ) where
       → PlaceFine closing (atLongitude ps latitude) w (pointed ps (record { latitude = latitude; longitude = coordinateOf eastWest w }))
   unfolding pointed goodPoint
   pointed-fine ps latitude ok g h =
-      settle (closes ps p) (λ c. there-if {x = outlined (ps ++ (p ∷ []))} (leb leastPoints (length ps + 1)) (λ l. record { isGood = closed ps ok c l; words = outlined-words closing (ps ++ (p ∷ [])) ∙ told; part = λ site. refl }))
-      (λ c. on-if {next = atDash (ps ++ (p ∷ []))} (roomAfter ps) (λ r. record { ok = (outline-last ps p ok (both-true g h) c r, omega (arith, length-append ps (p ∷ []))); words = told; part = λ site. refl }))
+      settle (closes ps p)
+      (λ c. there-if {x = outlined (ps ++ (p ∷ []))} (leb leastPoints (length ps + 1))
+      (λ l. record { isGood = closed ps ok c l; words = outlined-words closing (ps ++ (p ∷ [])) ∙ told; part = λ site. refl }))
+      (λ c. on-if {next = atDash (ps ++ (p ∷ []))} (roomAfter ps)
+      (λ r. record { ok = (outline-last ps p ok (both-true g h) c r, omega (arith, length-append ps (p ∷ []))); words = told; part = λ site. refl }))
     where
       p : Point
       p = record { latitude = latitude; longitude = coordinateOf eastWest w }

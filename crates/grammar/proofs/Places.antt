@@ -1,61 +1,55 @@
 -- The states inside a location, in a report or in a forecast.
 -- Assumes nothing.
-use mathlib.Core.Bool.{Bool, true, false}
+use mathlib.Core.Bool.{true, false}
 use mathlib.Core.List.{List, [], _∷_, _++_}
 use mathlib.Core.Path.{_≡_, refl, ap, sym, _∙_}
 use Prim.Native.Char.{code}
 use Prim.Native.Nat.{ℕ, zero, suc, _+_, _≤_, _<_}
 use native.Mathlib.Omega.{arith}
-use lib.Dec.{eqb, leb}
-use lib.ListN.{length, take, length-append}
-use borrow.Author.Tests.{eqb-true, leb-true, leb-false, lt-ltb}
-use Rattle.lists.specs.Choice.{pick, both, either}
+use lib.Dec.{leb}
+use lib.ListN.{length, length-append}
+use borrow.Author.Tests.{leb-true, leb-false, lt-ltb}
+use Rattle.lists.specs.Choice.{either}
 use Rattle.lists.specs.Base.{worthAfter}
 use Rattle.lists.specs.Lists.{allOf, same}
 use Rattle.lists.specs.Text.{bytes}
-use Rattle.lists.proofs.Choice.{by, clash, both-left, both-right, both-true, both-false-right, either-left, either-right, either-cases}
-use Rattle.lists.proofs.Lists.{same-refl, all-append}
-use Rattle.words.specs.Bytes.{letter, allowed}
-use Rattle.words.specs.Words.{plainWord}
+use Rattle.lists.proofs.Choice.{by, clash, both-true, either-left, either-right, either-cases}
+use Rattle.lists.proofs.Lists.{same-refl}
 use Rattle.figures.specs.Figures.{figuresOf}
-use Rattle.figures.proofs.PlainLaws.{letter-plain, plain-cons}
-use Rattle.coordinates.specs.Coordinates.{Axis, northSouth, eastWest, goodCoordinate, emptyCoordinate, spellCoordinate}
-use Rattle.coordinates.specs.Points.{goodPoint, emptyPoint, pointWords}
+use Rattle.coordinates.specs.Coordinates.{northSouth, eastWest, goodCoordinate, spellCoordinate}
+use Rattle.coordinates.specs.Points.{goodPoint}
 use Rattle.coordinates.specs.declared.Coordinate.{Coordinate}
 use Rattle.coordinates.specs.declared.Point.{Point}
-use Rattle.coordinates.proofs.Axes.{spell-plain, latitude-reads, longitude-reads, latitude-plain, longitude-plain}
-use Rattle.coordinates.proofs.Goodness.{empty-is}
+use Rattle.coordinates.proofs.Axes.{latitude-reads, longitude-reads}
 use Rattle.levels.specs.Levels.{levelOf, goodLevelWord, goodLevel}
 use Rattle.levels.specs.declared.Level.the-variants.{Flight}
-use Rattle.message.specs.Limits.{leastPoints, mostPoints, cta}
-use Rattle.message.specs.Locations.{goodSide, emptySide, noSide, goodBound, noPoints, locatedBy, goodExtent, noExtent, sideWords, boundWords, dashed, joined, locationWords, extentWords}
+use Rattle.message.specs.Limits.{leastPoints, mostPoints}
+use Rattle.message.specs.Locations.{goodSide, noSide, goodExtent, extentWords}
 use Rattle.message.specs.Records.{good}
 use Rattle.message.specs.declared.Ending.the-variants.{Forecast}
 use Rattle.message.specs.declared.Extent.{Extent}
-use Rattle.message.specs.declared.Location.{Location}
-use Rattle.message.specs.declared.Location.the-variants.{Nowhere, Bounded, Outline, Entire}
 use Rattle.message.specs.declared.Side.{Side}
 use Rattle.grammar.specs.Numbers.{locationPart, placeNumber}
-use Rattle.grammar.specs.Parts.{Marked, marked}
+use Rattle.grammar.specs.Parts.{marked}
 use Rattle.grammar.specs.Placing.{is, Placed, closes, sameLatitude, roomAfter, entireWord, locating, placeStep}
-use Rattle.grammar.specs.Placing.Placed.{on, there, past, nowhere}
+use Rattle.grammar.specs.Placing.Placed.{on, there}
 use Rattle.grammar.specs.Records.{bounded, outlined, entirely, areaOf, reportOf}
 use Rattle.grammar.specs.Runs.{walk}
-use Rattle.grammar.specs.States.{ToObservation, ToLocation, ToLevel, Site, Placing, State, Move}
+use Rattle.grammar.specs.States.{ToObservation, ToLocation, ToLevel, Site, Placing, State}
 use Rattle.grammar.specs.States.Site.{inReport, inForecast}
 use Rattle.grammar.specs.States.Placing.{atLocation, atLatitudeOf, atLatitudeBound, atAnd, atSecondBound, atLongitudeOf, atLongitudeBound, atEntire, atLatitude, atLongitude, atDash}
-use Rattle.grammar.specs.States.State.{atPlace, atLevel, atEnding, atEnd}
-use Rattle.grammar.specs.States.Move.{goes, done, dead}
+use Rattle.grammar.specs.States.State.{atPlace, atLevel, atEnding}
+use Rattle.grammar.specs.States.Move.{goes}
 use Rattle.grammar.specs.Steps.{levelled, stepLevel, closingAt, after, settled, stepPlace, step}
-use Rattle.grammar.proofs.Invariant.{letterOn, ObservationOk, LocationOk, LevelOk, ForecastOk, SiteOk, OutlineOk, PlacingOk, Ok, placeMark}
+use Rattle.grammar.proofs.Invariant.{ObservationOk, LocationOk, LevelOk, ForecastOk, SiteOk, OutlineOk, PlacingOk, Ok, placeMark}
 use Rattle.grammar.proofs.Moves.{Fine, fine-as, fine-end, Next, next-by, next-end}
 use Rattle.grammar.proofs.Moves.Fine.{leads, ends, dies}
-use Rattle.grammar.proofs.Outlines.{pointAt, latitude-on, dash-on, longitude-on, longitude-there, other-latitude, first-latitude, first-longitude, first-good, east, east-zero, north, north-zero, Elsewhere, elsewhere, walk-on, walk-there, outline-on, empty-points, Outlined, outline-told}
-use Rattle.grammar.proofs.PlaceLaws.{GoesOn, Ends, Ended, PlaceFine, place-fine, outline-last, good-side, no-side-empty, bounded-first, first-side}
+use Rattle.grammar.proofs.Outlines.{pointAt, latitude-on, dash-on, longitude-on, longitude-there, first-good, other-latitude, first-latitude, first-longitude, east, east-zero, north, north-zero, Elsewhere, elsewhere}
+use Rattle.grammar.proofs.PlaceLaws.{PlaceFine, place-fine, outline-last, good-side, no-side-empty, bounded-first, first-side}
 use Rattle.grammar.proofs.PlaceLaws.PlaceFine.{goesOn, isThere, isPast, isNowhere}
 use Rattle.grammar.proofs.Told.{onward, onward-last, placingWords, toldSite, told, toldRecord}
 
--- one more word of a location, behind what was told before it
+-- Sound. One more word of a location stands behind what was told before it.
 grown : (site : Site) (p : Placing) (w : List ℕ) (vs : List (List ℕ)) → vs ≡ placingWords p ++ (w ∷ []) → placeMark site p w ≡ locationPart site
     → onward (locationPart site) vs (toldSite site) ≡ marked (placeMark site p w) w ∷ onward (locationPart site) (placingWords p) (toldSite site)
 grown site p w vs e k = rw (e, k) (onward-last (locationPart site) (placingWords p) w (toldSite site))
@@ -68,14 +62,22 @@ module _
   where
     settled-sound : (site : Site) (p : Placing) (w : List ℕ) {m : Placed} → SiteOk site → PlaceFine (closingAt site) p w m → Fine (atPlace site p) w (settled site w m)
     unfolding step told
-    settled-sound site p w ok (goesOn {next} f) = leads {next = atPlace site next} (record { ok = (ok, f .ok); tells = grown site p w (placingWords next) (f .words) (f .part site) })
+    settled-sound site p w ok (goesOn {next} f) =
+        leads {next = atPlace site next} (record { ok = (ok, f .ok); tells = grown site p w (placingWords next) (f .words) (f .part site) })
     settled-sound (inReport o) p w ok (isThere {e} f) =
-        leads {next = after (inReport o) e} (record { ok = record { before = ok; extent = f .isGood }; tells = grown (inReport o) p w (extentWords (closingAt (inReport o)) e) (f .words) (f .part (inReport o)) })
+        let site : Site = inReport o in
+        leads {next = after site e}
+        (record { ok = record { before = ok; extent = f .isGood }; tells = grown site p w (extentWords (closingAt site) e) (f .words) (f .part site) })
     settled-sound (inForecast l i) p w ok (isThere {e} f) =
-        leads {next = after (inForecast l i) e}
-        (record { ok = forecast-end l i e ok (f .isGood) .0; tells = forecast-end l i e ok (f .isGood) .1 ∙ grown (inForecast l i) p w (extentWords (closingAt (inForecast l i)) e) (f .words) (f .part (inForecast l i)) })
+        let site : Site = inForecast l i in
+        leads {next = after site e}
+        (record {
+          ok = forecast-end l i e ok (f .isGood) .0;
+          tells = forecast-end l i e ok (f .isGood) .1 ∙ grown site p w (extentWords (closingAt site) e) (f .words) (f .part site);
+        })
     settled-sound (inReport o) p w ok (isPast {e} f) =
-        fine-as (atPlace (inReport o) p) (after (inReport o) e) (rw (f .words)) (sym (f .part (inReport o))) (level-sound (record { before = o; extent = e }) w (record { before = ok; extent = f .isGood }))
+        fine-as (atPlace (inReport o) p) (after (inReport o) e) (rw (f .words)) (sym (f .part (inReport o)))
+        (level-sound (record { before = o; extent = e }) w (record { before = ok; extent = f .isGood }))
     settled-sound (inForecast l i) p w ok (isPast {e} f) =
         fine-as (atPlace (inForecast l i) p) (after (inForecast l i) e) (forecast-end l i e ok (f .isGood) .1 ∙ rw (f .words)) (sym (f .part (inForecast l i)))
         (fine-end (reportOf l (Forecast i) e) w (forecast-end l i e ok (f .isGood) .0))
@@ -84,7 +86,7 @@ module _
     pub place-sound : (site : Site) (p : Placing) (w : List ℕ) → SiteOk site → PlacingOk p → Fine (atPlace site p) w (stepPlace site p w)
     place-sound site p w ok placed = settled-sound site p w ok (place-fine (closingAt site) p w placed)
 
--- Live.
+-- Live: from every state inside a location some words lead to the end.
 
 -- a location that ends with this word is good
 ends-good : {closing : ℕ} {p : Placing} {w : List ℕ} {x : Extent} → PlaceFine closing p w (there x) → goodExtent x ≡ true
@@ -113,7 +115,8 @@ module _ (ending : (l : ToLevel) → LevelOk l → Next (atEnding l)) where
   unfolding step placeStep stepLevel walk same levelOf goodLevelWord figuresOf allOf worthAfter
   and-next (inReport o) latitude ok g =
       let q : ToLocation = record { before = o; extent = bounded latitude noSide } in
-      next-by (atPlace (inReport o) (atAnd latitude)) (bytes "FL100") (levelled q (Flight 100)) refl refl (level-next q (record { before = ok; extent = bounded-first latitude g }))
+      next-by (atPlace (inReport o) (atAnd latitude)) (bytes "FL100") (levelled q (Flight 100)) refl refl
+      (level-next q (record { before = ok; extent = bounded-first latitude g }))
   and-next (inForecast l i) latitude ok g = record { word = []; rest = []; message = reportOf l (Forecast i) (bounded latitude noSide); ends = refl; part = refl }
 
   module _ (site : Site) (ok : SiteOk site) where
@@ -127,7 +130,7 @@ module _ (ending : (l : ToLevel) → LevelOk l → Next (atEnding l)) where
     by-last p w x placed e k =
         next-by (atPlace site p) w (after site x) (ap (settled site w) e) k (after-next site x ok (ends-good (rw e at (place-fine (closingAt site) p w placed))))
 
-    -- An outline. From four points on, point 1's own words close it.
+    -- An outline. Once there are points enough, point 1's own words close it.
     shut-longitude : (first : Point) (ps : List Point) (latitude : Coordinate) → PlacingOk (atLongitude (first ∷ ps) latitude) → sameLatitude (first ∷ ps) latitude ≡ true
         → leastPoints ≤ length (first ∷ ps) + 1 → Next (atPlace site (atLongitude (first ∷ ps) latitude))
     shut-longitude first ps latitude placed e h =
@@ -145,7 +148,8 @@ module _ (ending : (l : ToLevel) → LevelOk l → Next (atEnding l)) where
         (shut-longitude first ps (first .latitude) (placed, g, r) s h)
 
     -- a point that does not close it
-    one-more : (ps : List Point) (latitude c : Coordinate) → PlacingOk (atLongitude ps latitude) → goodCoordinate eastWest c ≡ true → closes ps (pointAt latitude c) ≡ false → roomAfter ps ≡ true
+    one-more : (ps : List Point) (latitude c : Coordinate) → PlacingOk (atLongitude ps latitude) → goodCoordinate eastWest c ≡ true
+        → closes ps (pointAt latitude c) ≡ false → roomAfter ps ≡ true
         → ((qs : List Point) → OutlineOk qs → length qs ≡ length ps + 1 → Next (atPlace site (atLatitude qs))) → Next (atPlace site (atLongitude ps latitude))
     unfolding goodPoint
     one-more ps latitude c placed g n r on′ =
@@ -189,7 +193,8 @@ module _ (ending : (l : ToLevel) → LevelOk l → Next (atEnding l)) where
     longitude-bound : (latitude : Side) (side : ℕ) → PlacingOk (atLongitudeBound latitude side) → Next (atPlace site (atLongitudeBound latitude side))
     unfolding placeStep
     longitude-bound latitude side placed =
-        by-last (atLongitudeBound latitude side) (spellCoordinate eastWest (east 0)) (bounded latitude (record { of = side; at = east 0 })) placed (rw (longitude-reads .forth (east 0) east-zero, east-zero)) refl
+        by-last (atLongitudeBound latitude side) (spellCoordinate eastWest (east 0)) (bounded latitude (record { of = side; at = east 0 })) placed
+        (rw (longitude-reads .forth (east 0) east-zero, east-zero)) refl
 
     longitude-of : (latitude : Side) (side : ℕ) → PlacingOk (atLongitudeOf latitude side) → Next (atPlace site (atLongitudeOf latitude side))
     unfolding placeStep same
@@ -232,183 +237,3 @@ module _ (ending : (l : ToLevel) → LevelOk l → Next (atEnding l)) where
       → (w : List ℕ) × (next : State) × (step (atPlace (inReport o) atLocation) w ≡ goes next) × (is "AT" w ≡ false) × Next next
   unfolding step placeStep locating same
   location-starts o ok = (bytes "E", atPlace (inReport o) (atLongitudeOf noSide (code "E")), refl, refl, first-bound (inReport o) ok)
-
--- Forth: the words of a good location lead through it.
-
-no-points : (ps : List Point) → noPoints ps ≡ true → ps ≡ noExtent .points
-unfolding noPoints
-no-points ps t =
-    let long : length ps ≡ mostPoints = eqb-true (length ps) mostPoints (both-left _ _ t) in
-    rw long at (empty-points ps (both-right (eqb (length ps) mostPoints) (allOf emptyPoint ps) t))
-
-no-side : (s : Side) → emptySide s ≡ true → s ≡ noSide
-unfolding emptySide
-no-side s t = λ i. record { of = eqb-true (s .of) 0 (both-left _ _ t) i; at = empty-is (s .at) (both-right (eqb (s .of) 0) (emptyCoordinate (s .at)) t) i }
-
-side-parts : (a : Axis) (s : Side) → goodSide a s ≡ true → (letterOn a (s .of) ≡ true) × (goodCoordinate a (s .at) ≡ true)
-unfolding goodSide
-side-parts a s g = (both-left _ _ g, both-right (letterOn a (s .of)) (goodCoordinate a (s .at)) g)
-
-module _ (closing side : ℕ) where
-  north-south : letterOn northSouth side ≡ true → placeStep closing atLocation (side ∷ []) ≡ on (atLatitudeOf side)
-  unfolding placeStep locating same
-  north-south l = either-cases (eqb side (code "N")) (eqb side (code "S")) l (λ e. rw (eqb-true side (code "N") e)) (λ e. rw (eqb-true side (code "S") e))
-
-  east-west : letterOn eastWest side ≡ true → placeStep closing atLocation (side ∷ []) ≡ on (atLongitudeOf noSide side)
-  unfolding placeStep locating same
-  east-west l = either-cases (eqb side (code "E")) (eqb side (code "W")) l (λ e. rw (eqb-true side (code "E") e)) (λ e. rw (eqb-true side (code "W") e))
-
-  second : (latitude : Side) → letterOn eastWest side ≡ true → placeStep closing (atSecondBound latitude) (side ∷ []) ≡ on (atLongitudeOf latitude side)
-  unfolding placeStep same
-  second latitude l = either-cases (eqb side (code "E")) (eqb side (code "W")) l (λ e. rw (eqb-true side (code "E") e)) (λ e. rw (eqb-true side (code "W") e))
-
-module _ (site : Site) where
-  -- a longitude bound, from a state that takes its letter
-  longitude-words : (p : Placing) (latitude longitude : Side) (ws : List (List ℕ)) → goodSide eastWest longitude ≡ true
-      → placeStep (closingAt site) p (longitude .of ∷ []) ≡ on (atLongitudeOf latitude (longitude .of))
-      → walk (goes (atPlace site p)) (sideWords eastWest longitude ++ ws) ≡ walk (goes (after site (bounded latitude longitude))) ws
-  unfolding placeStep same
-  longitude-words p latitude longitude ws g e =
-      let c : List ℕ = spellCoordinate eastWest (longitude .at) in
-      let h : goodCoordinate eastWest (longitude .at) ≡ true = side-parts eastWest longitude g .1 in
-      walk-on site p (longitude .of ∷ []) (bytes "OF" ∷ c ∷ ws) (atLongitudeOf latitude (longitude .of)) e
-      ∙ (walk-on site (atLongitudeOf latitude (longitude .of)) (bytes "OF") (c ∷ ws) (atLongitudeBound latitude (longitude .of)) refl
-      ∙ walk-there site (atLongitudeBound latitude (longitude .of)) c ws (bounded latitude longitude) (rw (longitude-reads .forth (longitude .at) h, h)))
-
-  latitude-words : (latitude : Side) (ws : List (List ℕ)) → goodSide northSouth latitude ≡ true
-      → walk (goes (atPlace site atLocation)) (sideWords northSouth latitude ++ ws) ≡ walk (goes (atPlace site (atAnd latitude))) ws
-  unfolding placeStep same
-  latitude-words latitude ws g =
-      let c : List ℕ = spellCoordinate northSouth (latitude .at) in
-      let h : goodCoordinate northSouth (latitude .at) ≡ true = side-parts northSouth latitude g .1 in
-      walk-on site atLocation (latitude .of ∷ []) (bytes "OF" ∷ c ∷ ws) (atLatitudeOf (latitude .of)) (north-south (closingAt site) (latitude .of) (side-parts northSouth latitude g .0))
-      ∙ (walk-on site (atLatitudeOf (latitude .of)) (bytes "OF") (c ∷ ws) (atLatitudeBound (latitude .of)) refl
-      ∙ walk-on site (atLatitudeBound (latitude .of)) c ws (atAnd latitude) (rw (latitude-reads .forth (latitude .at) h, h)))
-
--- after a latitude bound, a word that is no `AND` is judged as what follows
-walk-past : (site : Site) (latitude : Side) (w : List ℕ) (ws : List (List ℕ)) → is "AND" w ≡ false
-    → walk (goes (atPlace site (atAnd latitude))) (w ∷ ws) ≡ walk (goes (after site (bounded latitude noSide))) (w ∷ ws)
-unfolding walk step placeStep
-walk-past (inReport o) latitude w ws n = rw n
-walk-past (inForecast l i) latitude w ws n = rw n
-
-module _ (site : Site) (w : List ℕ) (ws : List (List ℕ)) (n : is "AND" w ≡ false) where
-  bound-on : (latitude longitude : Side) → goodBound (record { latitude = latitude; longitude = longitude }) ≡ true
-      → walk (goes (atPlace site atLocation)) (boundWords (record { latitude = latitude; longitude = longitude }) ++ (w ∷ ws)) ≡ walk (goes (after site (bounded latitude longitude))) (w ∷ ws)
-  unfolding goodBound boundWords placeStep same
-  bound-on latitude longitude g =
-      by (emptySide latitude)
-      (λ e.
-      let h : goodSide eastWest longitude ≡ true = rw e at g in
-      let i : latitude ≡ noSide = no-side latitude e in
-      rw (e, i) (longitude-words site atLocation noSide longitude (w ∷ ws) h (east-west (closingAt site) (longitude .of) (side-parts eastWest longitude h .0))))
-      (λ e.
-      let h : both (goodSide northSouth latitude) (either (emptySide longitude) (goodSide eastWest longitude)) ≡ true = rw e at g in
-      let k : goodSide northSouth latitude ≡ true = both-left _ _ h in
-      by (emptySide longitude)
-      (λ f. rw (e, f, no-side longitude f) (latitude-words site latitude (w ∷ ws) k ∙ walk-past site latitude w ws n))
-      (λ f.
-      let m : goodSide eastWest longitude ≡ true = rw f at (both-right (goodSide northSouth latitude) (either (emptySide longitude) (goodSide eastWest longitude)) h) in
-      rw (e, f)
-      (latitude-words site latitude (bytes "AND" ∷ (sideWords eastWest longitude ++ (w ∷ ws))) k
-      ∙ (walk-on site (atAnd latitude) (bytes "AND") (sideWords eastWest longitude ++ (w ∷ ws)) (atSecondBound latitude) refl
-      ∙ longitude-words site (atSecondBound latitude) latitude longitude (w ∷ ws) m (second (closingAt site) (longitude .of) latitude (side-parts eastWest longitude m .0))))))
-
-  located : (l : Location) (ps : List Point) → locatedBy l ps ≡ true
-      → walk (goes (atPlace site atLocation)) (locationWords (closingAt site) l ps ++ (w ∷ ws)) ≡ walk (goes (after site (record { location = l; points = ps }))) (w ∷ ws)
-  unfolding placeStep locating same
-  located Nowhere ps g = clash false g refl
-  located (Bounded b) ps g = rw (no-points ps (both-right (goodBound b) (noPoints ps) g)) (bound-on (b .latitude) (b .longitude) (both-left _ _ g))
-  located (Outline k) ps g =
-      let o : Outlined k ps = outline-told k ps g in
-      walk-on site atLocation (bytes "WI") (joined (take k ps) ++ (w ∷ ws)) (atLatitude []) refl
-      ∙ rw (o .taken, o .whole) (outline-on site (o .before) (o .last) (w ∷ ws) (o .points) (o .end) (o .room) (o .least) (o .isOpen) (o .shut))
-  located Entire ps g =
-      rw (no-points ps g)
-      (walk-on site atLocation (bytes "ENTIRE") (entireWord (closingAt site) ∷ w ∷ ws) atEntire refl
-      ∙ walk-there site atEntire (entireWord (closingAt site)) (w ∷ ws) entirely (rw (same-refl (entireWord (closingAt site)))))
-
-pub forth-extent : (site : Site) (e : Extent) (w : List ℕ) (ws : List (List ℕ)) → goodExtent e ≡ true → is "AND" w ≡ false
-    → walk (goes (atPlace site atLocation)) (extentWords (closingAt site) e ++ (w ∷ ws)) ≡ walk (goes (after site e)) (w ∷ ws)
-unfolding goodExtent extentWords
-forth-extent site e w ws g n = located site w ws n (e .location) (e .points) g
-
--- The words of a good location: the first is no `AT`, …
-
-one-letter : (x : ℕ) → is "AT" (x ∷ []) ≡ false
-unfolding same
-one-letter x = both-false-right (eqb x (code "A")) refl
-
-first-of : (closing : ℕ) (l : Location) (ps : List Point) → locatedBy l ps ≡ true
-    → (w : List ℕ) × (rest : List (List ℕ)) × (locationWords closing l ps ≡ w ∷ rest) × (is "AT" w ≡ false)
-unfolding boundWords same
-first-of closing Nowhere ps g = clash false g refl
-first-of closing (Bounded b) ps g =
-    let latitude : Side = b .latitude in
-    let longitude : Side = b .longitude in
-    by (emptySide latitude)
-    (λ e. (longitude .of ∷ [], bytes "OF" ∷ spellCoordinate eastWest (longitude .at) ∷ [], rw e, one-letter (longitude .of)))
-    (λ e. (
-      latitude .of ∷ [],
-      bytes "OF" ∷ spellCoordinate northSouth (latitude .at) ∷ pick (emptySide longitude) [] (bytes "AND" ∷ sideWords eastWest longitude),
-      rw e,
-      one-letter (latitude .of),
-    ))
-first-of closing (Outline n) ps g = (bytes "WI", joined (take n ps), refl, refl)
-first-of closing Entire ps g = (bytes "ENTIRE", entireWord closing ∷ [], refl, refl)
-
-pub extent-first : (closing : ℕ) (e : Extent) → goodExtent e ≡ true
-    → (w : List ℕ) × (rest : List (List ℕ)) × (extentWords closing e ≡ w ∷ rest) × (is "AT" w ≡ false)
-unfolding goodExtent extentWords
-extent-first closing e g = first-of closing (e .location) (e .points) g
-
--- … and all have plain bytes alone
-
-side-plain : (a : Axis) (s : Side) → letter (a .plus) ≡ true → letter (a .minus) ≡ true → goodSide a s ≡ true → allOf plainWord (sideWords a s) ≡ true
-unfolding allOf allowed
-side-plain a s p m g =
-    let parts : (letterOn a (s .of) ≡ true) × (goodCoordinate a (s .at) ≡ true) = side-parts a s g in
-    let l : letter (s .of) ≡ true = either-cases (eqb (s .of) (a .plus)) (eqb (s .of) (a .minus)) (parts .0) (λ e. rw (eqb-true (s .of) (a .plus) e) p) (λ e. rw (eqb-true (s .of) (a .minus) e) m) in
-    both-true (plain-cons (s .of) [] (letter-plain (s .of) l) refl) (both-true (spell-plain a p m (s .at) (parts .1)) refl)
-
-point-plain : (p : Point) → goodPoint p ≡ true → allOf plainWord (pointWords p) ≡ true
-unfolding allOf goodPoint
-point-plain p g =
-    both-true (latitude-plain (p .latitude) (both-left _ _ g)) (both-true (longitude-plain (p .longitude) (both-right (goodCoordinate northSouth (p .latitude)) (goodCoordinate eastWest (p .longitude)) g)) refl)
-
-dashed-plain : (ps : List Point) → allOf goodPoint ps ≡ true → allOf plainWord (dashed ps) ≡ true
-unfolding dashed allOf allowed
-dashed-plain [] g = refl
-dashed-plain (p ∷ ps) g = all-append plainWord (pointWords p) (dashed ps) ∙ both-true (point-plain p (both-left _ _ g)) (dashed-plain ps (both-right (goodPoint p) (allOf goodPoint ps) g))
-
-joined-plain : (ps : List Point) → allOf goodPoint ps ≡ true → allOf plainWord (joined ps) ≡ true
-unfolding joined allOf
-joined-plain [] g = refl
-joined-plain (p ∷ ps) g = all-append plainWord (pointWords p) (dashed ps) ∙ both-true (point-plain p (both-left _ _ g)) (dashed-plain ps (both-right (goodPoint p) (allOf goodPoint ps) g))
-
-bound-plain : (latitude longitude : Side) → goodBound (record { latitude = latitude; longitude = longitude }) ≡ true
-    → allOf plainWord (boundWords (record { latitude = latitude; longitude = longitude })) ≡ true
-unfolding goodBound boundWords allOf allowed
-bound-plain latitude longitude g =
-    by (emptySide latitude) (λ e. rw e (side-plain eastWest longitude refl refl (rw e at g)))
-    (λ e.
-    let h : both (goodSide northSouth latitude) (either (emptySide longitude) (goodSide eastWest longitude)) ≡ true = rw e at g in
-    let front : allOf plainWord (sideWords northSouth latitude) ≡ true = side-plain northSouth latitude refl refl (both-left _ _ h) in
-    by (emptySide longitude) (λ f. rw (e, f) front)
-    (λ f.
-    let m : goodSide eastWest longitude ≡ true = rw f at (both-right (goodSide northSouth latitude) (either (emptySide longitude) (goodSide eastWest longitude)) h) in
-    rw (e, f) (all-append plainWord (sideWords northSouth latitude) (bytes "AND" ∷ sideWords eastWest longitude) ∙ both-true front (side-plain eastWest longitude refl refl m))))
-
-location-plain : (closing : ℕ) (l : Location) (ps : List Point) → locatedBy l ps ≡ true → allOf plainWord (locationWords closing l ps) ≡ true
-unfolding allOf allowed
-location-plain closing Nowhere ps g = clash false g refl
-location-plain closing (Bounded b) ps g = bound-plain (b .latitude) (b .longitude) (both-left _ _ g)
-location-plain closing (Outline n) ps g =
-    let o : Outlined n ps = outline-told n ps g in
-    ap (λ (qs : List Point). allOf plainWord (joined qs)) (o .taken)
-    ∙ joined-plain (o .before ++ (o .last ∷ [])) (all-append goodPoint (o .before) (o .last ∷ []) ∙ both-true (o .points) (both-true (o .end) refl))
-location-plain closing Entire ps g = by (eqb closing cta) (λ e. rw e) (λ e. rw e)
-
-pub plain-extent : (closing : ℕ) (e : Extent) → goodExtent e ≡ true → allOf plainWord (extentWords closing e) ≡ true
-unfolding goodExtent extentWords
-plain-extent closing e g = location-plain closing (e .location) (e .points) g

@@ -33,7 +33,7 @@ use Rattle.grammar.proofs.Ashes.{plain-volcano}
 use Rattle.grammar.proofs.Endings.{plain-level, plain-ending}
 use Rattle.grammar.proofs.Forms.{plain-test, plain-cancellation}
 use Rattle.grammar.proofs.Observations.{plain-observation}
-use Rattle.grammar.proofs.Places.{plain-extent}
+use Rattle.grammar.proofs.Extents.{plain-extent}
 use Rattle.grammar.proofs.Weather.{plain-phenomenon}
 
 plain-both : (vs us : List (List ℕ)) → allOf plainWord vs ≡ true → allOf plainWord us ≡ true → allOf plainWord (vs ++ us) ≡ true

@@ -7,6 +7,7 @@ use mathlib.Core.Logic.{_↔_}
 use mathlib.Core.Path.{_≡_, refl, ap, sym, _∙_}
 use Prim.Native.Nat.{ℕ, suc, _≤_}
 use lib.ListN.{length, take}
+use borrow.Author.Tests.{le-ltb}
 use Rattle.words.specs.Words.{Word}
 use Rattle.message.specs.Records.{good}
 use Rattle.message.specs.Words.{wordsOf, textOf}
@@ -23,13 +24,14 @@ use Rattle.grammar.specs.Writes.{Wrote, writeOf, written, unwritten}
 use Rattle.grammar.specs.declared.Reply.{Reply}
 use Rattle.grammar.proofs.FirstDead.{refused-there, there-refused}
 use Rattle.grammar.proofs.Forth.{good-accepted}
+use Rattle.grammar.proofs.Lengths.{text-fits}
 use Rattle.grammar.proofs.Marks.{accepted-good, accepted-words}
 use Rattle.grammar.proofs.Opening.{plain-heading, plain-line}
 use Rattle.grammar.proofs.Plain.{plain-body}
 use Rattle.grammar.proofs.Replies.{text-accepted, text-accepts, replied, reply-only}
 use Rattle.grammar.proofs.RunLaws.{done-same, run-walks, walk-runs}
 use Rattle.grammar.proofs.Sections.{sound, next}
-use Rattle.grammar.proofs.TextLaws.{text-read, text-canonical, canonical-is-text, write-read, read-write}
+use Rattle.grammar.proofs.TextLaws.{text-read, text-canonical, canonical-is-text, write-read, read-write, write-refused}
 use Rattle.grammar.proofs.Twelve.{twelve-exactly}
 
 -- Words.
@@ -76,6 +78,33 @@ read-replied b = replied sound next good-accepted b
 pub read-determined : (b : List ℕ) (q : Reply) → Replied b q → q ≡ readOf b
 read-determined b q h = reply-only sound next good-accepted b q h
 
--- Reading the canonical text of a good record gives that record.
-pub good-text-read : (r : Record) → good r ≡ true → length (textOf r) ≤ 2048 → readOf (textOf r) ≡ acceptance r
-good-text-read r g h = text-read (text-accepted sound next good-accepted) (text-accepts sound next good-accepted) plain-heading plain-line plain-body r g h
+-- Reading the canonical text of a good record gives that record: it always fits, so number 24 stays unused under today's limits.
+pub good-text-read : (r : Record) → good r ≡ true → readOf (textOf r) ≡ acceptance r
+good-text-read r g = text-read (text-accepted sound next good-accepted) (text-accepts sound next good-accepted) plain-heading plain-line plain-body r g (text-fits r g)
+
+pub good-text-canonical : (r : Record) → good r ≡ true → Canonical (textOf r)
+good-text-canonical r g = text-canonical (text-accepted sound next good-accepted) (text-accepts sound next good-accepted) plain-heading plain-line plain-body r g (text-fits r g)
+
+-- A text that is read and is in canonical layout is the canonical text of its record.
+pub canonical-text : (b : List ℕ) (r : Record) → readOf b ≡ acceptance r → Canonical b → b ≡ textOf r
+canonical-text b r e c =
+    canonical-is-text (text-accepted sound next good-accepted) (text-accepts sound next good-accepted) plain-heading plain-line plain-body b r e c
+
+-- Writing a good record and reading it gives that record …
+pub written-read : (r : Record) (buffer : List ℕ) → writeOf r buffer .number ≡ 0 → readOf (take (writeOf r buffer .count) (writeOf r buffer .buffer)) ≡ acceptance r
+written-read r buffer e =
+    write-read (text-accepted sound next good-accepted) (text-accepts sound next good-accepted) plain-heading plain-line plain-body r buffer e
+
+-- … a good record is written wherever the buffer holds its text, and the bytes past the count stay …
+pub good-written : (r : Record) (buffer : List ℕ) → good r ≡ true → length (textOf r) ≤ length buffer → writeOf r buffer ≡ written (textOf r) buffer
+unfolding writeOf
+good-written r buffer g h = rw (g, le-ltb 2048 (length (textOf r)) (text-fits r g), le-ltb (length buffer) (length (textOf r)) h)
+
+-- … and reading a canonical text and writing it gives the same bytes.
+pub read-written : (b : List ℕ) (r : Record) (buffer : List ℕ) → readOf b ≡ acceptance r → Canonical b → length b ≤ length buffer → writeOf r buffer ≡ written b buffer
+read-written b r buffer e c h =
+    read-write (text-accepted sound next good-accepted) (text-accepts sound next good-accepted) plain-heading plain-line plain-body b r buffer e c h
+
+-- A refused writing leaves the buffer as it was, and counts 0.
+pub write-refused-untouched : (r : Record) (buffer : List ℕ) (n : ℕ) → writeOf r buffer .number ≡ suc n → writeOf r buffer ≡ unwritten (suc n) buffer
+write-refused-untouched r buffer n e = write-refused r buffer n e
