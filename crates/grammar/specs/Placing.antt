@@ -1,6 +1,6 @@
 -- 01, "A record's location is exactly one of three things: a bound, an outline or the entire area." One word of a location.
 -- Assumes nothing.
-use mathlib.Core.Bool.{Bool, true, false}
+use mathlib.Core.Bool.{Bool, false}
 use mathlib.Core.List.{List, [], _∷_, _++_}
 use Prim.Native.Nat.{ℕ, _+_}
 use Prim.Native.String.{String}

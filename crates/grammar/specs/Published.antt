@@ -1,16 +1,11 @@
 -- The WS and WV examples of source document 002, with hyphens for its long dashes, laid out as canonical text.
 -- Assumes nothing.
-use mathlib.Core.List.{List, _++_}
+use mathlib.Core.List.{List}
 use mathlib.Core.Path.{_≡_}
 use Prim.Native.Nat.{ℕ}
-use Prim.Native.String.{String}
-use Rattle.lists.specs.Text.{bytes}
-use Rattle.message.specs.Words.{newLine, textOf}
+use Rattle.message.specs.Words.{textOf}
+use Rattle.grammar.specs.Cases.{bulletin}
 use Rattle.grammar.specs.Reads.{readOf}
-
--- heading, first line and body
-abbrev pub bulletin : String → String → String → List ℕ
-bulletin heading line body = bytes heading ++ (newLine ++ (bytes line ++ (newLine ++ bytes body)))
 
 -- the text is read, and its record's canonical text is the text itself
 pub record ReadsBack (b : List ℕ) : Type 0 where

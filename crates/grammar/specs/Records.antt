@@ -22,7 +22,7 @@ use Rattle.message.specs.declared.Observation.{Observation}
 use Rattle.message.specs.declared.Record.{Record}
 use Rattle.message.specs.declared.Report.{Report}
 use Rattle.message.specs.declared.Side.{Side}
-use Rattle.grammar.specs.States.{ToArea, ToPhenomenon, ToObservation, ToLocation, ToLevel}
+use Rattle.grammar.specs.States.{ToArea, ToLevel}
 
 -- a name of that text
 abbrev pub nameOf : List ℕ → Name

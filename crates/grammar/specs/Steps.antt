@@ -3,10 +3,10 @@
 use mathlib.Core.Bool.{Bool, true, false, not}
 use mathlib.Core.List.{List, [], _∷_, _++_}
 use Prim.Native.Char.{code}
-use Prim.Native.Nat.{ℕ, suc, _+_, _-_, _*_}
+use Prim.Native.Nat.{ℕ, suc, _-_, _*_}
 use lib.Dec.{eqb, leb}
 use lib.ListN.{length, getD}
-use Rattle.lists.specs.Choice.{pick, both, either}
+use Rattle.lists.specs.Choice.{pick, both}
 use Rattle.lists.specs.Lists.{same}
 use Rattle.lists.specs.Text.{bytes}
 use Rattle.figures.specs.Letters.{lettersOf, goodLetters}
@@ -19,8 +19,6 @@ use Rattle.names.specs.Names.{closingOf, goodClosing, inName}
 use Rattle.levels.specs.Levels.{levelOf, goodLevelWord, flight}
 use Rattle.motions.specs.Motions.{compassOf, goodCompass, intensityOf, goodIntensity}
 use Rattle.motions.specs.Speeds.{speedOf, goodSpeed}
-use Rattle.coordinates.specs.declared.Coordinate.{Coordinate}
-use Rattle.groups.specs.declared.Group.{Group}
 use Rattle.groups.specs.declared.Period.{Period}
 use Rattle.groups.specs.declared.Time.{Time}
 use Rattle.headings.specs.declared.Sequence.{Sequence}
@@ -36,13 +34,11 @@ use Rattle.message.specs.declared.Ending.the-variants.{Moving, Stationary, Fore
 use Rattle.message.specs.declared.Extent.{Extent}
 use Rattle.message.specs.declared.FirstLine.{FirstLine}
 use Rattle.message.specs.declared.Heading.{Heading}
-use Rattle.message.specs.declared.Name.{Name}
 use Rattle.message.specs.declared.Record.{Record}
-use Rattle.message.specs.declared.Volcano.{Volcano}
 use Rattle.grammar.specs.Placing.{is, Placed, placeStep}
 use Rattle.grammar.specs.Placing.Placed.{on, there, past, nowhere}
 use Rattle.grammar.specs.Records.{nameOf, untimed, timedAt, testOf, cancellationOf, areaOf, reportOf}
-use Rattle.grammar.specs.States.{ToArea, ToPhenomenon, ToObservation, ToLocation, ToLevel, Site, Placing, State, Move}
+use Rattle.grammar.specs.States.{ToArea, ToPhenomenon, ToLocation, ToLevel, Site, Placing, State, Move}
 use Rattle.grammar.specs.States.Site.{inReport, inForecast}
 use Rattle.grammar.specs.States.Placing.{atLocation}
 use Rattle.grammar.specs.States.State.{atDesignator, atCentre, atSent, atCorrection, atUnit, atSigmet, atSequence, atValid, atPeriod, atOffice, atIndicator, atName, atMoreName, atForm, atTest, atTestText, atCancelSigmet, atCancelSequence, atCancelPeriod, atStorm, atSevere, atIce, atHeavy, atRadioactive, atAsh, atEruption, atMountain, atMoreMountain, atPosition, atPositionLongitude, atVolcanoAsh, atVolcanoCloud, atObservation, atObserved, atObservedTime, atPlace, atLevel, atTop, atAbove, atTopAbove, atEnding, atCompass, atSpeed, atMovingIntensity, atStationary, atForecast, atForecastAt, atForecastTime, atEnd}
