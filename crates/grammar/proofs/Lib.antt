@@ -26,6 +26,3 @@ pub mod Replies
 pub mod TextLaws
 pub mod Lengths
 pub mod Theorems
-pub mod Cases
-pub mod TextCases
-pub mod Published

@@ -5,8 +5,6 @@ pub mod Steps
 pub mod Numbers
 pub mod Runs
 pub mod Reads
-pub mod Cases
-pub mod Published
 pub mod Parts
 pub mod Judged
 pub mod Replies

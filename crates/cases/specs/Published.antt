@@ -4,8 +4,8 @@ use mathlib.Core.List.{List}
 use mathlib.Core.Path.{_≡_}
 use Prim.Native.Nat.{ℕ}
 use Rattle.message.specs.Words.{textOf}
-use Rattle.grammar.specs.Cases.{bulletin}
+use Rattle.cases.specs.Cases.{bulletin}
 use Rattle.grammar.specs.Reads.{readOf}
 
 -- the text is read, and its record's canonical text is the text itself
 pub record ReadsBack (b : List ℕ) : Type 0 where

@@ -25,12 +25,12 @@ use Rattle.motions.specs.Speeds.{unitWords, speedOf, goodSpeed}
 use Rattle.message.specs.Records.{namesItself}
 use Rattle.message.specs.Sample.{sample, sampleText}
 use Rattle.message.specs.Words.{testTexts}
-use Rattle.grammar.specs.Cases.{reporting, eastOf, E180, bulletin, saying, ashSaying, laterSaying, located, meridianOutline, sevenOutline, testing, testingFifty, cancelling, eruptionText, eruptionRecord, correctedText, correctedRecord}
+use Rattle.cases.specs.Cases.{reporting, eastOf, E180, bulletin, saying, ashSaying, laterSaying, located, meridianOutline, sevenOutline, testing, testingFifty, cancelling, eruptionText, eruptionRecord, correctedText, correctedRecord}
 use Rattle.grammar.specs.Placing.{pointed, locating, placeStep}
 use Rattle.grammar.specs.Reads.{readOf, acceptance, refusal}
 use Rattle.grammar.specs.Runs.{run, runAt}
 use Rattle.grammar.specs.Steps.{stormWords, cancels, stepForm, stepLevel, stepEnding, step}
 use Rattle.grammar.specs.declared.Reply.{Reply}
 
 -- the reader with every definition open that it comes to: a theorem that unfolds this one computes
 opened : List ℕ → Reply

@@ -24,7 +24,7 @@ use Rattle.message.specs.Reports.{phenomena, goodVolcano, emptyVolcano, goodPhe
 use Rattle.message.specs.Sample.{sample}
 use Rattle.message.specs.Words.{headingWords, lineWords, areaWords, testTexts, formWords, bodyWords, textOf}
 use Rattle.message.specs.declared.Record.{Record}
-use Rattle.grammar.specs.Cases.{reporting, eastOf, E180, saying, laterSaying, located, meridianOutline, sevenOutline, testing, testingFifty, cancelling, eruptionText, eruptionRecord, correctedText, correctedRecord}
+use Rattle.cases.specs.Cases.{reporting, eastOf, E180, saying, laterSaying, located, meridianOutline, sevenOutline, testing, testingFifty, cancelling, eruptionText, eruptionRecord, correctedText, correctedRecord}
 
 -- the record is good, and that is its text
 pub record Shown (r : Record) (text : List ℕ) : Type 0 where

@@ -1,0 +1,1 @@
+// No code: the cases are theorems about the definitions of crate grammar.
