@@ -11,7 +11,7 @@ use Rattle.lists.specs.Base.{worthAfter}
 use Rattle.lists.specs.Choice.{both, either}
 use Rattle.lists.specs.Lists.{allOf, indexOf, same}
 use Rattle.lists.specs.Text.{bytes}
-use Rattle.lists.proofs.Choice.{both-left, both-right, both-true, either-right, either-cases}
+use Rattle.lists.proofs.Choice.{both-left, both-right, both-true, either-left, either-right, either-cases}
 use Rattle.lists.proofs.Lists.{all-append, same-is}
 use Rattle.words.specs.Bytes.{allowed}
 use Rattle.words.specs.Words.{plainWord}
@@ -28,6 +28,8 @@ use Rattle.message.specs.Names.{unusedZero, goodName, emptyName, noName}
 use Rattle.message.specs.Reports.{phenomena, goodVolcano, emptyVolcano, noVolcano, goodPhenomenon, mountWords, phenomenonWords}
 use Rattle.message.specs.declared.Name.{Name}
 use Rattle.message.specs.declared.Volcano.{Volcano}
+use Rattle.message.proofs.Empties.{empty-name-is, no-name-empty, no-volcano-empty}
+use Rattle.message.proofs.Goodness.{volcano-parts}
 use Rattle.grammar.specs.Placing.{is}
 use Rattle.grammar.specs.Records.{nameOf}
 use Rattle.grammar.specs.Runs.{walk}
@@ -41,26 +43,11 @@ use Rattle.grammar.proofs.Moves.{Fine, chosen, goes-if, Next, next-by, 
 use Rattle.grammar.proofs.Moves.Fine.{leads}
 use Rattle.grammar.proofs.NameText.{begun-name, begun-pieces, grown-name, grown-pieces, open-mountain, name-words-of, name-of-good, name-of-some, unused-is, good-name-is, good-name-ok, good-name-some, good-name-plain, forth-name}
 
--- Empty ones.
-
-pub empty-name-is : (n : Name) → emptyName n ≡ true → n ≡ noName
-unfolding emptyName
-empty-name-is n e =
-    let none : n .count ≡ 0 = eqb-true (n .count) 0 (both-left (eqb (n .count) 0) (unusedZero n) e) in
-    unused-is n (both-right (eqb (n .count) 0) (unusedZero n) e) (rw none zero-le) ∙ ap (λ (k : ℕ). nameOf (take k (n .bytes))) none
-
-pub empty-volcano-is : (v : Volcano) → emptyVolcano v ≡ true → v ≡ noVolcano
-unfolding emptyVolcano
-empty-volcano-is v e = λ i. record {
-  name = empty-name-is (v .name) (both-left (emptyName (v .name)) (emptyPoint (v .position)) e) i;
-  position = empty-point-is (v .position) (both-right (emptyName (v .name)) (emptyPoint (v .position)) e) i;
-}
-
 -- Sound.
 
 cloud-good : goodPhenomenon wv ashCloud noVolcano ≡ true
-unfolding goodPhenomenon emptyVolcano emptyName emptyPoint emptyCoordinate allOf
-cloud-good = refl
+unfolding goodPhenomenon
+cloud-good = rw no-volcano-empty
 
 weather-ok : (o : ToArea) → AshOk o → PhenomenonOk (weather o ashCloud)
 weather-ok o ok = record { before = ok .opening; phenomenon = rw (ok .kind) cloud-good }
@@ -72,12 +59,10 @@ ash-sound o w ok =
     (λ e. goes-if (is "ERUPTION" w) (λ g. record { ok = ok; tells = rw (same-is w (bytes "ERUPTION") g) }))
 
 no-mountain : MountainOk noName
-unfolding emptyName allOf
-no-mountain = refl
+no-mountain = either-left _ no-name-empty
 
 no-mountain-words : mountainWords noName ≡ []
-unfolding emptyName allOf
-no-mountain-words = refl
+no-mountain-words = rw no-name-empty
 
 pub eruption-sound : (o : ToArea) (w : List ℕ) → Ok (atEruption o) → Fine (atEruption o) w (step (atEruption o) w)
 unfolding step told
@@ -229,35 +214,19 @@ forth-some-mountain o n ws g =
     ∙ (forth-name true mountainLimit (atMoreMountain o) (mountain-on o) (atMountain o) (mountain-first o) t (bytes "PSN" ∷ ws) (good-name-ok true mountainLimit (lit< tt) n g)
     ∙ (walk-step (atMoreMountain o t) (atPosition o (nameOf t)) (bytes "PSN") ws refl ∙ ap (λ (m : Name). walk (goes (atPosition o m)) ws) (sym whole))))
 
--- a good volcano, part by part
+-- a good volcano
 module _ (v : Volcano) (g : goodVolcano v ≡ true) where
-  volcano-name : MountainOk (v .name)
-  unfolding goodVolcano
-  volcano-name = both-left (either (emptyName (v .name)) (goodName true mountainLimit (v .name))) (goodPoint (v .position)) g
-
-  volcano-point : goodPoint (v .position) ≡ true
-  unfolding goodVolcano
-  volcano-point = both-right (either (emptyName (v .name)) (goodName true mountainLimit (v .name))) (goodPoint (v .position)) g
-
-  volcano-latitude : goodCoordinate northSouth (v .position .latitude) ≡ true
-  unfolding goodPoint
-  volcano-latitude = both-left (goodCoordinate northSouth (v .position .latitude)) (goodCoordinate eastWest (v .position .longitude)) volcano-point
-
-  volcano-longitude : goodCoordinate eastWest (v .position .longitude) ≡ true
-  unfolding goodPoint
-  volcano-longitude = both-right (goodCoordinate northSouth (v .position .latitude)) (goodCoordinate eastWest (v .position .longitude)) volcano-point
-
   latitude-step : (o : ToArea) → step (atPosition o (v .name)) (spellCoordinate northSouth (v .position .latitude)) ≡ goes (atPositionLongitude o (v .name) (v .position .latitude))
   unfolding step
-  latitude-step o = rw (latitude-reads .forth (v .position .latitude) volcano-latitude, volcano-latitude)
+  latitude-step o = let k = volcano-parts v g .latitude in rw (latitude-reads .forth (v .position .latitude) k, k)
 
   longitude-step : (o : ToArea) → step (atPositionLongitude o (v .name) (v .position .latitude)) (spellCoordinate eastWest (v .position .longitude)) ≡ goes (atVolcanoAsh o v)
   unfolding step
-  longitude-step o = rw (longitude-reads .forth (v .position .longitude) volcano-longitude, volcano-longitude)
+  longitude-step o = let k = volcano-parts v g .longitude in rw (longitude-reads .forth (v .position .longitude) k, k)
 
   forth-mountain : (o : ToArea) (ws : List (List ℕ)) → walk (goes (atEruption o)) (mountWords v ++ (bytes "PSN" ∷ ws)) ≡ walk (goes (atPosition o (v .name))) ws
   forth-mountain o ws =
-      either-cases (emptyName (v .name)) (goodName true mountainLimit (v .name)) volcano-name (forth-no-mountain o (v .name) ws) (forth-some-mountain o (v .name) ws)
+      either-cases (emptyName (v .name)) (goodName true mountainLimit (v .name)) (volcano-parts v g .name) (forth-no-mountain o (v .name) ws) (forth-some-mountain o (v .name) ws)
 
   -- the point and `VA CLD`
   forth-position : (o : ToArea) (ws : List (List ℕ))
@@ -273,7 +242,7 @@ module _ (v : Volcano) (g : goodVolcano v ≡ true) where
       ∙ (walk-step (atVolcanoAsh o v) (atVolcanoCloud o v) (bytes "VA") (bytes "CLD" ∷ ws) refl
       ∙ walk-step (atVolcanoCloud o v) (atObservation (erupted o v)) (bytes "CLD") ws refl))
 
-  forth-eruption : (o : ToArea) (ws : List (List ℕ)) → kindOf o ≡ wv
+  pub forth-eruption : (o : ToArea) (ws : List (List ℕ)) → kindOf o ≡ wv
       → walk (goes (atForm o)) (phenomenonWords eruption v ++ ws) ≡ walk (goes (atObservation (erupted o v))) ws
   unfolding step same phenomenonWords phenomena
   forth-eruption o ws k =
@@ -284,27 +253,11 @@ module _ (v : Volcano) (g : goodVolcano v ≡ true) where
       ∙ (ap (walk (goes (atEruption o))) (append-assoc (mountWords v) (bytes "PSN" ∷ point) ws)
       ∙ (forth-mountain o (point ++ ws) ∙ forth-position o ws)))
 
-forth-cloud : (o : ToArea) (ws : List (List ℕ)) → kindOf o ≡ wv
+pub forth-cloud : (o : ToArea) (ws : List (List ℕ)) → kindOf o ≡ wv
     → walk (goes (atForm o)) (phenomenonWords ashCloud noVolcano ++ ws) ≡ walk (goes (atObservation (weather o ashCloud))) ws
 unfolding step same phenomenonWords phenomena
 forth-cloud o ws k =
     walk-step (atForm o) (atAsh o) (bytes "VA") (bytes "CLD" ∷ ws) (form-step o k) ∙ walk-step (atAsh o) (atObservation (weather o ashCloud)) (bytes "CLD") ws refl
-
-pub forth-ash : (o : ToArea) (n : ℕ) (v : Volcano) (ws : List (List ℕ)) → kindOf o ≡ wv → goodPhenomenon wv n v ≡ true
-    → walk (goes (atForm o)) (phenomenonWords n v ++ ws) ≡ walk (goes (atObservation (record { before = o; phenomenon = n; volcano = v }))) ws
-unfolding goodPhenomenon
-forth-ash o n v ws k g =
-    either-cases (both (eqb n ashCloud) (emptyVolcano v)) (both (eqb n eruption) (goodVolcano v)) g
-    (λ c. cloud (eqb-true n ashCloud (both-left (eqb n ashCloud) (emptyVolcano v) c)) (empty-volcano-is v (both-right (eqb n ashCloud) (emptyVolcano v) c)))
-    (λ c. erupts (eqb-true n eruption (both-left (eqb n eruption) (goodVolcano v) c)) (both-right (eqb n eruption) (goodVolcano v) c))
-  where
-    cloud : n ≡ ashCloud → v ≡ noVolcano
-        → walk (goes (atForm o)) (phenomenonWords n v ++ ws) ≡ walk (goes (atObservation (record { before = o; phenomenon = n; volcano = v }))) ws
-    cloud e f = rw (e, f) (forth-cloud o ws k)
-
-    erupts : n ≡ eruption → goodVolcano v ≡ true
-        → walk (goes (atForm o)) (phenomenonWords n v ++ ws) ≡ walk (goes (atObservation (record { before = o; phenomenon = n; volcano = v }))) ws
-    erupts e f = rw e (forth-eruption v f o ws k)
 
 -- Plain.
 
@@ -317,7 +270,8 @@ plain-mountain n ok =
 pub plain-volcano : (v : Volcano) → goodVolcano v ≡ true → allOf plainWord (phenomenonWords eruption v) ≡ true
 unfolding phenomenonWords phenomena allOf allowed
 plain-volcano v g =
+    let parts = volcano-parts v g in
     all-append plainWord (mountWords v) (bytes "PSN" ∷ (pointWords (v .position) ++ (bytes "VA" ∷ bytes "CLD" ∷ [])))
-    ∙ both-true (plain-mountain (v .name) (volcano-name v g))
-    (both-true (latitude-plain (v .position .latitude) (volcano-latitude v g))
-    (both-true (longitude-plain (v .position .longitude) (volcano-longitude v g)) refl))
+    ∙ both-true (plain-mountain (v .name) (parts .name))
+    (both-true (latitude-plain (v .position .latitude) (parts .latitude))
+    (both-true (longitude-plain (v .position .longitude) (parts .longitude)) refl))

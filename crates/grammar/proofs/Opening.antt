@@ -31,17 +31,21 @@ use Rattle.headings.specs.declared.Designator.{Designator}
 use Rattle.headings.specs.declared.Sequence.{Sequence}
 use Rattle.headings.proofs.HeadingLaws.{designator-reads, designator-plain, correction-reads, correction-plain, office-reads, office-plain}
 use Rattle.headings.proofs.SequenceLaws.{sequence-reads, sequence-plain}
-use Rattle.message.specs.Records.{goodHeading, goodLine}
+use Rattle.message.specs.Records.{goodHeading, goodLine, goodForm, good}
 use Rattle.message.specs.Words.{correctionWords, headingWords, lineWords}
 use Rattle.message.specs.declared.FirstLine.{FirstLine}
+use Rattle.message.specs.declared.Form.{Form}
 use Rattle.message.specs.declared.Heading.{Heading}
+use Rattle.message.specs.declared.Report.{Report}
+use Rattle.message.proofs.Goodness.{heading-parts, line-parts}
 use Rattle.grammar.specs.Placing.{is}
+use Rattle.grammar.specs.Records.{formed}
 use Rattle.grammar.specs.Runs.{walk}
-use Rattle.grammar.specs.States.{State}
+use Rattle.grammar.specs.States.{ToArea, State}
 use Rattle.grammar.specs.States.Move.{goes}
 use Rattle.grammar.specs.States.State.{atDesignator, atCentre, atSent, atCorrection, atUnit, atSigmet, atSequence, atValid, atPeriod, atOffice, atIndicator}
-use Rattle.grammar.specs.Steps.{goesIf, step}
-use Rattle.grammar.proofs.Invariant.{Ok}
+use Rattle.grammar.specs.Steps.{goesIf, kindOf, step}
+use Rattle.grammar.proofs.Invariant.{OpeningOk, Ok}
 use Rattle.grammar.proofs.Moves.{Fine, chosen, goes-if, fine-as, Next, next-by, walk-step}
 use Rattle.grammar.proofs.Moves.Fine.{leads}
 use Rattle.grammar.proofs.Told.{told}
@@ -54,36 +58,10 @@ some-correction : (c : ℕ) → goodCorrection c ≡ true → eqb c 0 ≡ false
 unfolding goodCorrection
 some-correction c g = by (eqb c 0) (λ e. clash false (rw (eqb-true c 0 e) at g) refl) (λ e. e)
 
--- four tests that all hold
-four : (a b c d : Bool) → both a (both b (both c d)) ≡ true → (a ≡ true) × (b ≡ true) × (c ≡ true) × (d ≡ true)
-four a b c d e =
-    let e′ : both b (both c d) ≡ true = both-right a (both b (both c d)) e in
-    let e″ : both c d ≡ true = both-right b (both c d) e′ in
-    (both-left a (both b (both c d)) e, both-left b (both c d) e′, both-left c d e″, both-right c d e″)
-
-pub record GoodHeading (h : Heading) : Type 0 where
-  pub designator : goodDesignator (h .designator) ≡ true
-  pub centre : goodLetters 4 (h .centre) ≡ true
-  pub sent : goodGroup (h .sent) ≡ true
-  pub correction : either (eqb (h .correction) 0) (goodCorrection (h .correction)) ≡ true
-
-pub heading-parts : (h : Heading) → goodHeading h ≡ true → GoodHeading h
-unfolding goodHeading
-heading-parts h g =
-    let t = four (goodDesignator (h .designator)) (goodLetters 4 (h .centre)) (goodGroup (h .sent)) (either (eqb (h .correction) 0) (goodCorrection (h .correction))) g in
-    record { designator = t .0; centre = t .1; sent = t .2; correction = t .3 }
-
-pub record GoodLine (l : FirstLine) : Type 0 where
-  pub unit : goodLetters 4 (l .unit) ≡ true
-  pub sequence : goodSequence (l .sequence) ≡ true
-  pub valid : goodPeriod (l .valid) ≡ true
-  pub office : goodLetters 4 (l .office) ≡ true
-
-pub line-parts : (l : FirstLine) → goodLine l ≡ true → GoodLine l
-unfolding goodLine
-line-parts l g =
-    let t = four (goodLetters 4 (l .unit)) (goodSequence (l .sequence)) (goodPeriod (l .valid)) (goodLetters 4 (l .office)) g in
-    record { unit = t .0; sequence = t .1; valid = t .2; office = t .3 }
+-- a message is good where what was read up to its area and its form are
+pub good-formed : (o : ToArea) (f : Form) (report : Report) → OpeningOk o → goodForm (kindOf o) (o .line) report f ≡ true → good (formed o f report) ≡ true
+unfolding good
+good-formed o f report ok g = both-true (ok .heading) (both-true (ok .line) (both-true (ok .area) g))
 
 -- Sound.
 
