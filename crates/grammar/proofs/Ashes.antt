@@ -3,29 +3,26 @@
 use mathlib.Core.Bool.{true, false}
 use mathlib.Core.List.{List, [], _∷_, _++_, append-assoc}
 use mathlib.Core.Path.{_≡_, refl, ap, sym, _∙_}
-use Prim.Native.Nat.{ℕ, zero-le}
-use lib.Dec.{leb, eqb, lit<}
+use Prim.Native.Nat.{ℕ}
+use lib.Dec.{leb, lit<}
 use lib.ListN.{length, take}
-use borrow.Author.Tests.{eqb-true}
 use Rattle.lists.specs.Base.{worthAfter}
-use Rattle.lists.specs.Choice.{both, either}
 use Rattle.lists.specs.Lists.{allOf, indexOf, same}
 use Rattle.lists.specs.Text.{bytes}
-use Rattle.lists.proofs.Choice.{both-left, both-right, both-true, either-left, either-right, either-cases}
+use Rattle.lists.proofs.Choice.{both-left, both-true, either-left, either-right, either-cases}
 use Rattle.lists.proofs.Lists.{all-append, same-is}
 use Rattle.words.specs.Bytes.{allowed}
 use Rattle.words.specs.Words.{plainWord}
 use Rattle.figures.specs.Figures.{figuresOf}
 use Rattle.figures.proofs.Kept.{reads-spelled}
-use Rattle.coordinates.specs.Coordinates.{northSouth, eastWest, coordinateOf, goodCoordinate, emptyCoordinate, spellCoordinate}
-use Rattle.coordinates.specs.Points.{goodPoint, emptyPoint, pointWords}
+use Rattle.coordinates.specs.Coordinates.{northSouth, eastWest, coordinateOf, goodCoordinate, spellCoordinate}
+use Rattle.coordinates.specs.Points.{goodPoint, pointWords}
 use Rattle.coordinates.proofs.Axes.{latitude-reads, longitude-reads, latitude-plain, longitude-plain}
-use Rattle.coordinates.proofs.Goodness.{empty-point-is}
 use Rattle.coordinates.specs.declared.Coordinate.{Coordinate}
 use Rattle.names.specs.Names.{nameWord, inName, pieces}
 use Rattle.message.specs.Limits.{mountainLimit, wv, ashCloud, eruption}
-use Rattle.message.specs.Names.{unusedZero, goodName, emptyName, noName}
-use Rattle.message.specs.Reports.{phenomena, goodVolcano, emptyVolcano, noVolcano, goodPhenomenon, mountWords, phenomenonWords}
+use Rattle.message.specs.Names.{goodName, emptyName, noName}
+use Rattle.message.specs.Reports.{phenomena, goodVolcano, noVolcano, goodPhenomenon, mountWords, phenomenonWords}
 use Rattle.message.specs.declared.Name.{Name}
 use Rattle.message.specs.declared.Volcano.{Volcano}
 use Rattle.message.proofs.Empties.{empty-name-is, no-name-empty, no-volcano-empty}
@@ -41,7 +38,7 @@ use Rattle.grammar.proofs.Told.{told, toldArea, mountainWords, onward-a
 use Rattle.grammar.proofs.Invariant.{AshOk, NameOk, MountainOk, PhenomenonOk, Ok}
 use Rattle.grammar.proofs.Moves.{Fine, chosen, goes-if, Next, next-by, walk-step}
 use Rattle.grammar.proofs.Moves.Fine.{leads}
-use Rattle.grammar.proofs.NameText.{begun-name, begun-pieces, grown-name, grown-pieces, open-mountain, name-words-of, name-of-good, name-of-some, unused-is, good-name-is, good-name-ok, good-name-some, good-name-plain, forth-name}
+use Rattle.grammar.proofs.NameText.{begun-name, begun-pieces, grown-name, grown-pieces, open-mountain, name-words-of, name-of-good, name-of-some, good-name-is, good-name-ok, good-name-some, good-name-plain, forth-name}
 
 -- Sound.
 

@@ -7,7 +7,6 @@ use mathlib.Core.Logic.{inl, inr}
 use mathlib.Core.Path.{_≡_, refl, _∙_}
 use Prim.Native.Nat.{ℕ}
 use lib.Dec.{eqb, lit<}
-use lib.ListN.{length, replicate}
 use borrow.Author.Tests.{eqb-true, eq-eqb, not-true}
 use Rattle.lists.specs.Base.{worthAfter}
 use Rattle.lists.specs.Choice.{both}
@@ -21,11 +20,7 @@ use Rattle.figures.specs.Figures.{figuresOf}
 use Rattle.figures.specs.Reads.{Reads}
 use Rattle.figures.proofs.Kept.{Back, reads-spelled}
 use Rattle.figures.proofs.TableLaws.{numbered-all}
-use Rattle.coordinates.specs.Coordinates.{emptyCoordinate}
-use Rattle.coordinates.specs.Points.{emptyPoint, noPoint}
-use Rattle.coordinates.specs.declared.Point.{Point}
-use Rattle.coordinates.proofs.Goodness.{empty-point-is}
-use Rattle.groups.specs.Groups.{onClock, goodGroup, goodPeriod, timeOf, goodTime, spellTime}
+use Rattle.groups.specs.Groups.{goodGroup, timeOf, goodTime, spellTime}
 use Rattle.groups.specs.declared.Period.{Period}
 use Rattle.groups.specs.declared.Time.{Time}
 use Rattle.groups.proofs.GroupLaws.{time-reads, time-plain}
@@ -38,15 +33,13 @@ use Rattle.motions.specs.Speeds.{unitWords, speedOf, goodSpeed, spellSpeed}
 use Rattle.motions.specs.declared.Speed.{Speed}
 use Rattle.motions.proofs.MotionLaws.{compass-reads, compass-plain, intensity-reads, intensity-plain, speed-reads, speed-plain}
 use Rattle.message.specs.Limits.{ws}
-use Rattle.message.specs.Locations.{noPoints, goodExtent, isNowhere, emptyExtent, noExtent, extentWords}
+use Rattle.message.specs.Locations.{goodExtent, noExtent, extentWords}
 use Rattle.message.specs.Records.{goodForm, good}
 use Rattle.message.specs.Reports.{goodEnding, goodReport, endingWords}
 use Rattle.message.specs.declared.Ending.{Ending}
 use Rattle.message.specs.declared.Ending.the-variants.{NoEnding, Moving, Stationary, Forecast}
 use Rattle.message.specs.declared.Extent.{Extent}
 use Rattle.message.specs.declared.Form.the-variants.{Reported}
-use Rattle.message.specs.declared.Location.{Location}
-use Rattle.message.specs.declared.Location.the-variants.{Nowhere, Bounded, Outline, Entire}
 use Rattle.message.specs.declared.Record.{Record}
 use Rattle.message.proofs.Empties.{empty-extent-is, no-extent-empty}
 use Rattle.message.proofs.Goodness.{line-parts, period-parts, moving-parts, stationary-parts, forecast-parts}
@@ -59,7 +52,7 @@ use Rattle.grammar.specs.States.Placing.{atLocation}
 use Rattle.grammar.specs.States.Site.{inForecast}
 use Rattle.grammar.specs.States.State.{atPlace, atLevel, atTop, atAbove, atTopAbove, atEnding, atCompass, atSpeed, atMovingIntensity, atStationary, atForecast, atForecastAt, atForecastTime, atEnd}
 use Rattle.grammar.specs.Steps.{kindOf, flightOf, levelled, stepLevel, stepEnding, sameTime, endTime, closingAt, after, step}
-use Rattle.grammar.proofs.Invariant.{OpeningOk, PhenomenonOk, ObservationOk, LocationOk, LevelOk, ForecastOk, SiteOk, Ok}
+use Rattle.grammar.proofs.Invariant.{OpeningOk, PhenomenonOk, LevelOk, ForecastOk, SiteOk, Ok}
 use Rattle.grammar.proofs.Moves.{Fine, chosen, goes-if, Next, next-by, next-end, walk-step}
 use Rattle.grammar.proofs.Moves.Fine.{leads}
 use Rattle.grammar.proofs.Opening.{good-formed, reads-on}

@@ -1,28 +1,20 @@
 -- The words of every good record are accepted as that record: the sections' laws put together.
 -- Assumes nothing.
-use mathlib.Core.Bool.{Bool, true, false, not}
+use mathlib.Core.Bool.{true, false}
 use mathlib.Core.List.{List, [], _∷_, _++_, append-assoc}
-use mathlib.Core.Path.{_≡_, refl, ap, sym, _∙_}
+use mathlib.Core.Path.{_≡_, refl, ap, _∙_}
 use Prim.Native.Nat.{ℕ}
-use lib.Dec.{eqb}
-use borrow.Author.Tests.{eqb-true, not-true}
-use Rattle.lists.specs.Choice.{both, either}
-use Rattle.lists.proofs.Choice.{by, clash, both-left, both-right, either-cases}
+use Rattle.lists.proofs.Choice.{clash, both-left, both-right}
 use Rattle.words.specs.Bytes.{between}
-use Rattle.levels.specs.Levels.{goodLevel, emptyLevel, levelWords}
-use Rattle.levels.specs.declared.Level.{Level}
-use Rattle.levels.proofs.LevelLaws.{empty-level-is}
-use Rattle.message.specs.Limits.{ws, wv, ashCloud, eruption}
-use Rattle.message.specs.Locations.{goodExtent, emptyExtent, extentWords}
-use Rattle.message.specs.Records.{goodHeading, goodLine, goodArea, goodCancellation, goodForm, good}
-use Rattle.message.specs.Reports.{goodPhenomenon, emptyVolcano, goodVolcano, phenomenonWords, goodObservation, emptyObservation, noObservation, observationWords, goodEnding, emptyEnding, endingWords, goodReport, emptyReport, noReport, reportWords}
+use Rattle.levels.specs.Levels.{levelWords}
+use Rattle.message.specs.Locations.{extentWords}
+use Rattle.message.specs.Records.{goodCancellation, goodForm, good}
+use Rattle.message.specs.Reports.{goodPhenomenon, phenomenonWords, observationWords, goodEnding, endingWords, reportWords}
 use Rattle.message.specs.Words.{headingWords, lineWords, areaWords, formWords, bodyWords, wordsOf}
 use Rattle.message.specs.declared.Ending.{Ending}
-use Rattle.message.specs.declared.Ending.the-variants.{NoEnding, Moving, Stationary, Forecast}
 use Rattle.message.specs.declared.Extent.{Extent}
 use Rattle.message.specs.declared.Form.{Form}
 use Rattle.message.specs.declared.Form.the-variants.{NoForm, Test, Cancellation, Reported}
-use Rattle.message.specs.declared.Observation.{Observation}
 use Rattle.message.specs.declared.Record.{Record}
 use Rattle.message.specs.declared.Report.{Report}
 use Rattle.message.specs.declared.Volcano.{Volcano}
@@ -30,19 +22,19 @@ use Rattle.message.proofs.Empties.{empty-volcano-is, empty-report-is}
 use Rattle.message.proofs.Goodness.{good-parts, report-parts, phenomenon-cases}
 use Rattle.grammar.specs.Judged.{messageWords}
 use Rattle.grammar.specs.Placing.{is}
-use Rattle.grammar.specs.Records.{formed, testOf, cancellationOf, areaOf, reportOf}
+use Rattle.grammar.specs.Records.{formed, areaOf, reportOf}
 use Rattle.grammar.specs.Runs.{walk}
 use Rattle.grammar.specs.States.{ToArea, ToPhenomenon, ToObservation, ToLocation, ToLevel}
 use Rattle.grammar.specs.States.Move.{goes, done}
 use Rattle.grammar.specs.States.Placing.{atLocation}
 use Rattle.grammar.specs.States.Site.{inReport}
-use Rattle.grammar.specs.States.State.{atDesignator, atIndicator, atForm, atObservation, atPlace, atLevel, atEnding}
+use Rattle.grammar.specs.States.State.{atDesignator, atForm, atObservation, atPlace, atLevel}
 use Rattle.grammar.specs.Steps.{kindOf, endTime}
 use Rattle.grammar.proofs.Areas.{forth-area}
 use Rattle.grammar.proofs.Ashes.{forth-cloud, forth-eruption}
 use Rattle.grammar.proofs.Endings.{level-first, forth-level, forth-ending}
 use Rattle.grammar.proofs.Forms.{forth-test, forth-cancellation}
-use Rattle.grammar.proofs.Invariant.{OpeningOk, PhenomenonOk, ObservationOk, LocationOk, LevelOk}
+use Rattle.grammar.proofs.Invariant.{OpeningOk, LevelOk}
 use Rattle.grammar.proofs.Observations.{observation-first, forth-observation}
 use Rattle.grammar.proofs.Opening.{forth-line}
 use Rattle.grammar.proofs.Extents.{extent-first, forth-extent}

@@ -8,10 +8,9 @@ use Prim.Native.Nat.{ℕ}
 use lib.Dec.{eqb, lit<}
 use borrow.Author.Tests.{eqb-true}
 use Rattle.lists.specs.Base.{worthAfter, places}
-use Rattle.lists.specs.Choice.{both, either}
 use Rattle.lists.specs.Lists.{indexOf, allOf, same}
 use Rattle.lists.specs.Text.{bytes}
-use Rattle.lists.proofs.Choice.{by, clash, both-left, both-right, both-true, either-right}
+use Rattle.lists.proofs.Choice.{by, clash, both-true, either-right}
 use Rattle.lists.proofs.Lists.{same-is}
 use Rattle.words.specs.Bytes.{allowed}
 use Rattle.words.specs.Words.{plainWord}

@@ -3,7 +3,7 @@
 use mathlib.Core.Bool.{Bool, true, false, not}
 use mathlib.Core.List.{List, [], _∷_, _++_, append-assoc}
 use mathlib.Core.Path.{_≡_, refl, ap, sym, _∙_}
-use Prim.Native.Nat.{ℕ, zero, suc, _+_, _-_, _≤_, _<_}
+use Prim.Native.Nat.{ℕ, _+_, _-_, _≤_, _<_}
 use native.Mathlib.Omega.{arith}
 use lib.Dec.{eqb, leb, lit<}
 use lib.ListN.{length, take, drop, getD, replicate, length-append, length-replicate}
@@ -15,16 +15,18 @@ use Rattle.lists.specs.Text.{bytes}
 use Rattle.lists.proofs.Choice.{by, clash, both-left, both-right, both-true, either-left, either-right, either-cases}
 use Rattle.lists.proofs.Lists.{same-is, all-append, index-past}
 use Rattle.figures.proofs.Kept.{reads-spelled}
-use Rattle.coordinates.specs.Coordinates.{Axis, northSouth, eastWest, coordinateOf, goodCoordinate, emptyCoordinate, spellCoordinate}
+use Rattle.coordinates.specs.Coordinates.{Axis, northSouth, eastWest, coordinateOf, goodCoordinate, spellCoordinate}
 use Rattle.coordinates.specs.Points.{samePoint, goodPoint, emptyPoint, noPoint, pointWords}
 use Rattle.coordinates.specs.declared.Coordinate.{Coordinate}
 use Rattle.coordinates.specs.declared.Point.{Point}
 use Rattle.coordinates.proofs.Axes.{latitude-reads, longitude-reads}
 use Rattle.coordinates.proofs.Goodness.{good-not-empty, no-point-empty}
 use Rattle.message.specs.Limits.{leastPoints, mostPoints}
-use Rattle.message.specs.Locations.{goodSide, emptySide, noSide, goodBound, noPoints, closingPoint, goodOutline, goodExtent, sideWords, boundWords, dashed, joined, extentWords}
+use Rattle.message.specs.Locations.{goodSide, emptySide, noSide, goodBound, closingPoint, goodOutline, goodExtent, sideWords, boundWords, dashed, joined, extentWords}
 use Rattle.message.specs.declared.Extent.{Extent}
 use Rattle.message.specs.declared.Side.{Side}
+use Rattle.message.proofs.Empties.{all-replicate, no-points-empty, no-side-empty}
+use Rattle.message.proofs.Goodness.{side-parts}
 use Rattle.grammar.specs.Numbers.{locationPart, followingPart}
 use Rattle.grammar.specs.Placing.{is, Placed, onIf, thereIf, sideWord, entireWord, closes, sameLatitude, roomAfter, pointed, locating, placeStep}
 use Rattle.grammar.specs.Placing.Placed.{on, there, past, nowhere}
@@ -83,15 +85,11 @@ unfolding goodSide
 good-side a s l c = both-true l c
 
 pub good-side-full : (a : Axis) → 0 < a .plus → 0 < a .minus → (s : Side) → goodSide a s ≡ true → emptySide s ≡ false
-unfolding goodSide emptySide
+unfolding emptySide
 good-side-full a p m s g =
     by (eqb (s .of) 0)
-    (λ e. rw (e, good-not-empty a p m (s .at) (both-right (letterOn a (s .of)) (goodCoordinate a (s .at)) g)))
+    (λ e. rw (e, good-not-empty a p m (s .at) (side-parts a s g .at)))
     (λ e. rw e)
-
-pub no-side-empty : emptySide noSide ≡ true
-unfolding emptySide emptyCoordinate
-no-side-empty = refl
 
 pub latitude-full : (s : Side) → goodSide northSouth s ≡ true → emptySide s ≡ false
 latitude-full = good-side-full northSouth (lit< tt) (lit< tt)
@@ -111,17 +109,18 @@ bound-both latitude longitude g =
     by (emptySide latitude) (λ e. rw e) (λ e. rw (e, longitude-full longitude g))
 
 pub bounded-first : (latitude : Side) → goodSide northSouth latitude ≡ true → goodExtent (bounded latitude noSide) ≡ true
-unfolding goodExtent goodBound noPoints allOf emptyPoint emptyCoordinate
-bounded-first latitude g = rw (latitude-full latitude g, g, no-side-empty)
+unfolding goodExtent goodBound
+bounded-first latitude g = rw (latitude-full latitude g, g, no-side-empty) no-points-empty
 
 pub bounded-both : (latitude longitude : Side) → firstGood latitude ≡ true → goodSide eastWest longitude ≡ true → goodExtent (bounded latitude longitude) ≡ true
-unfolding goodExtent goodBound noPoints allOf emptyPoint emptyCoordinate
+unfolding goodExtent goodBound
 bounded-both latitude longitude f g =
-    by (emptySide latitude) (λ e. rw (e, g)) (λ e. let k : goodSide northSouth latitude ≡ true = rw e at f in rw (e, k, longitude-full longitude g, g))
+    by (emptySide latitude) (λ e. rw (e, g) no-points-empty)
+    (λ e. let k : goodSide northSouth latitude ≡ true = rw e at f in rw (e, k, longitude-full longitude g, g) no-points-empty)
 
 pub entirely-good : goodExtent entirely ≡ true
-unfolding goodExtent noPoints allOf emptyPoint emptyCoordinate
-entirely-good = refl
+unfolding goodExtent
+entirely-good = no-points-empty
 
 pub first-side : (latitude : Side) → goodSide northSouth latitude ≡ true → firstGood latitude ≡ true
 first-side latitude g = rw (latitude-full latitude g) g
@@ -148,12 +147,6 @@ pub joined-trailed : (ps : List Point) → 0 < length ps → joined ps ++ (bytes
 unfolding joined
 joined-trailed [] h = absurd (omega arith)
 joined-trailed (x ∷ ps) h = rw (dashed-trailed ps)
-
--- the points of an outline and the empty places after them
-pub all-replicate : {A : Type 0} (f : A → Bool) (n : ℕ) (x : A) → f x ≡ true → allOf f (replicate n x) ≡ true
-unfolding allOf
-all-replicate f zero x e = refl
-all-replicate f (suc n) x e = rw e (all-replicate f n x e)
 
 pub outlined-words : (closing : ℕ) (qs : List Point) → extentWords closing (outlined qs) ≡ bytes "WI" ∷ joined qs
 unfolding extentWords

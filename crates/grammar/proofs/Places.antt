@@ -29,6 +29,7 @@ use Rattle.message.specs.Records.{good}
 use Rattle.message.specs.declared.Ending.the-variants.{Forecast}
 use Rattle.message.specs.declared.Extent.{Extent}
 use Rattle.message.specs.declared.Side.{Side}
+use Rattle.message.proofs.Empties.{no-side-empty}
 use Rattle.grammar.specs.Numbers.{locationPart, placeNumber}
 use Rattle.grammar.specs.Parts.{marked}
 use Rattle.grammar.specs.Placing.{is, Placed, closes, sameLatitude, roomAfter, entireWord, locating, placeStep}
@@ -45,7 +46,7 @@ use Rattle.grammar.proofs.Invariant.{ObservationOk, LocationOk, LevelOk
 use Rattle.grammar.proofs.Moves.{Fine, fine-as, fine-end, Next, next-by, next-end}
 use Rattle.grammar.proofs.Moves.Fine.{leads, ends, dies}
 use Rattle.grammar.proofs.Outlines.{pointAt, latitude-on, dash-on, longitude-on, longitude-there, first-good, other-latitude, first-latitude, first-longitude, east, east-zero, north, north-zero, Elsewhere, elsewhere}
-use Rattle.grammar.proofs.PlaceLaws.{PlaceFine, place-fine, outline-last, good-side, no-side-empty, bounded-first, first-side}
+use Rattle.grammar.proofs.PlaceLaws.{PlaceFine, place-fine, outline-last, good-side, bounded-first, first-side}
 use Rattle.grammar.proofs.PlaceLaws.PlaceFine.{goesOn, isThere, isPast, isNowhere}
 use Rattle.grammar.proofs.Told.{onward, onward-last, placingWords, toldSite, told, toldRecord}
 
@@ -135,12 +136,12 @@ module _ (ending : (l : ToLevel) → LevelOk l → Next (atEnding l)) where
         → leastPoints ≤ length (first ∷ ps) + 1 → Next (atPlace site (atLongitude (first ∷ ps) latitude))
     shut-longitude first ps latitude placed e h =
         by-last (atLongitude (first ∷ ps) latitude) (spellCoordinate eastWest (first .longitude)) (outlined ((first ∷ ps) ++ (pointAt latitude (first .longitude) ∷ []))) placed
-        (longitude-there (closingAt site) (first ∷ ps) latitude (first .longitude) (first-good first ps (placed .0 .points) .1) (first-longitude first ps latitude e) h) refl
+        (longitude-there (closingAt site) (first ∷ ps) latitude (first .longitude) (first-good first ps (placed .0 .points) .longitude) (first-longitude first ps latitude e) h) refl
 
     shut-latitude : (ps : List Point) → OutlineOk ps → leastPoints ≤ length ps + 1 → Next (atPlace site (atLatitude ps))
     shut-latitude [] placed h = absurd (omega arith)
     shut-latitude (first ∷ ps) placed h =
-        let g : goodCoordinate northSouth (first .latitude) ≡ true = first-good first ps (placed .points) .0 in
+        let g : goodCoordinate northSouth (first .latitude) ≡ true = first-good first ps (placed .points) .latitude in
         let s : sameLatitude (first ∷ ps) (first .latitude) ≡ true = first-latitude first ps in
         let r : either (roomAfter (first ∷ ps)) (sameLatitude (first ∷ ps) (first .latitude)) ≡ true = either-right (roomAfter (first ∷ ps)) s in
         by-word (atLatitude (first ∷ ps)) (atLongitude (first ∷ ps) (first .latitude)) (spellCoordinate northSouth (first .latitude))

@@ -1,27 +1,20 @@
 -- Every word of a good record is a plain word: allowed bytes, no blank and no `=`.
 -- Assumes nothing.
-use mathlib.Core.Bool.{Bool, true, false, not}
+use mathlib.Core.Bool.{true, false}
 use mathlib.Core.List.{List, _++_}
 use mathlib.Core.Path.{_≡_, refl, _∙_}
-use Prim.Native.Nat.{ℕ, _≤_}
+use Prim.Native.Nat.{ℕ}
 use native.Mathlib.Omega.{arith}
-use lib.Dec.{eqb, leb}
-use borrow.Author.Tests.{eqb-true, le-leb}
-use Rattle.lists.specs.Choice.{both, either}
 use Rattle.lists.specs.Lists.{allOf}
-use Rattle.lists.proofs.Choice.{clash, both-left, both-right, both-true, either-cases}
+use Rattle.lists.proofs.Choice.{clash, both-left, both-true}
 use Rattle.lists.proofs.Lists.{all-append}
-use Rattle.words.specs.Bytes.{between}
 use Rattle.words.specs.Words.{plainWord}
 use Rattle.words.proofs.Ranges.{between-low, between-high}
-use Rattle.levels.specs.Levels.{goodLevel, levelWords}
+use Rattle.levels.specs.Levels.{levelWords}
 use Rattle.groups.specs.declared.Time.{Time}
-use Rattle.headings.specs.Sequences.{goodSequence}
-use Rattle.groups.specs.Groups.{goodGroup}
-use Rattle.message.specs.Limits.{ws, wv, ashCloud, eruption}
-use Rattle.message.specs.Locations.{goodExtent, extentWords}
-use Rattle.message.specs.Records.{goodHeading, goodLine, goodArea, namesItself, goodCancellation, goodForm, good}
-use Rattle.message.specs.Reports.{emptyVolcano, goodVolcano, goodPhenomenon, phenomenonWords, goodObservation, observationWords, goodEnding, endingWords, goodReport, emptyReport, reportWords}
+use Rattle.message.specs.Locations.{extentWords}
+use Rattle.message.specs.Records.{goodForm, good}
+use Rattle.message.specs.Reports.{goodPhenomenon, phenomenonWords, observationWords, endingWords, goodReport, reportWords}
 use Rattle.message.specs.Words.{areaWords, formWords, bodyWords}
 use Rattle.message.specs.declared.Form.{Form}
 use Rattle.message.specs.declared.Form.the-variants.{NoForm, Test, Cancellation, Reported}

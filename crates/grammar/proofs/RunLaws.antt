@@ -9,7 +9,7 @@ use Rattle.words.specs.Words.{Word}
 use Rattle.message.specs.declared.Record.{Record}
 use Rattle.grammar.specs.Judged.{bytesOf}
 use Rattle.grammar.specs.Numbers.{numberOf}
-use Rattle.grammar.specs.Runs.{advance, walk, Ran, finished, run}
+use Rattle.grammar.specs.Runs.{advance, walk, finished, run}
 use Rattle.grammar.specs.Runs.Ran.{accepted, refused, unfinished}
 use Rattle.grammar.specs.States.{State, Move}
 use Rattle.grammar.specs.States.Move.{goes, done, dead}

@@ -10,7 +10,7 @@ use lib.Dec.{ltb, eqb}
 use lib.ListN.{length, take, drop, length-append}
 use lib.Seq.{take-append-seam}
 use borrow.Author.Tests.{eqb-true, ltb-false, le-ltb, ne-eqb}
-use Rattle.lists.specs.Choice.{both, either}
+use Rattle.lists.specs.Choice.{both}
 use Rattle.lists.specs.Lists.{allOf}
 use Rattle.lists.proofs.Choice.{by, clash, both-left, both-right, either-cases}
 use Rattle.lists.proofs.Lists.{all-append, all-weaken}
@@ -19,17 +19,17 @@ use Rattle.words.specs.Check.{checkOf}
 use Rattle.words.specs.Words.{Word, wordsIn, solidWord, plainWord, line}
 use Rattle.words.proofs.Refusals.{check-readable, check-bare}
 use Rattle.words.proofs.Words.{run-all, gap-crlf, words-line, words-line-end}
-use Rattle.figures.specs.Letters.{inLetters, goodLetters}
+use Rattle.figures.specs.Letters.{inLetters}
 use Rattle.figures.proofs.LetterLaws.{length-inLetters}
 use Rattle.figures.proofs.PlainLaws.{plain-solid}
-use Rattle.groups.specs.Groups.{goodGroup}
-use Rattle.headings.specs.Headings.{goodDesignator, correctionOf, goodCorrection}
+use Rattle.headings.specs.Headings.{correctionOf, goodCorrection}
 use Rattle.headings.proofs.HeadingLaws.{correction-reads}
-use Rattle.message.specs.Records.{goodHeading, goodLine, goodArea, goodForm, good}
+use Rattle.message.specs.Records.{goodHeading, goodLine, good}
 use Rattle.message.specs.Words.{headingWords, lineWords, bodyWords, wordsOf, newLine, textOf}
 use Rattle.message.specs.declared.FirstLine.{FirstLine}
 use Rattle.message.specs.declared.Heading.{Heading}
 use Rattle.message.specs.declared.Record.{Record}
+use Rattle.message.proofs.Goodness.{good-parts, heading-parts}
 use Rattle.grammar.specs.Judged.{messageWords}
 use Rattle.grammar.specs.Layout.{headingCount, laidOut, Canonical}
 use Rattle.grammar.specs.Numbers.{numberOf}
@@ -115,27 +115,6 @@ unit-no-correction : (u : ℕ) → goodCorrection (correctionOf (inLetters 4 u))
 unfolding correctionOf goodCorrection
 unit-no-correction u = rw (ne-eqb (length (inLetters 4 u)) 3 (λ e. omega (arith, length-inLetters 4 u)))
 
-good-heading : (r : Record) → good r ≡ true → goodHeading (r .heading) ≡ true
-unfolding good
-good-heading r g =
-    both-left (goodHeading (r .heading))
-    (both (goodLine (r .line)) (both (goodArea (r .area)) (goodForm (r .heading .designator .kind) (r .line) (r .report) (r .form))))
-    g
-
-good-line : (r : Record) → good r ≡ true → goodLine (r .line) ≡ true
-unfolding good
-good-line r g =
-    let rest : Bool = both (goodArea (r .area)) (goodForm (r .heading .designator .kind) (r .line) (r .report) (r .form)) in
-    both-left (goodLine (r .line)) rest (both-right (goodHeading (r .heading)) (both (goodLine (r .line)) rest) g)
-
-heading-correction : (h : Heading) → goodHeading h ≡ true → either (eqb (h .correction) 0) (goodCorrection (h .correction)) ≡ true
-unfolding goodHeading
-heading-correction h g =
-    let c : Bool = either (eqb (h .correction) 0) (goodCorrection (h .correction)) in
-    both-right (goodGroup (h .sent)) c
-    (both-right (goodLetters 4 (h .centre)) (both (goodGroup (h .sent)) c)
-    (both-right (goodDesignator (h .designator)) (both (goodLetters 4 (h .centre)) (both (goodGroup (h .sent)) c)) g))
-
 laid-bare : (r : Record) → eqb (r .heading .correction) 0 ≡ true → laidOut (headingCount (wordsOf r)) (wordsOf r) ≡ textOf r
 unfolding wordsOf headingWords lineWords textOf
 laid-bare r e = rw (e, unit-no-correction (r .line .unit))
@@ -148,7 +127,7 @@ laid-corrected r g =
 
 pub laid-text : (r : Record) → good r ≡ true → laidOut (headingCount (wordsOf r)) (wordsOf r) ≡ textOf r
 laid-text r g =
-    either-cases (eqb (r .heading .correction) 0) (goodCorrection (r .heading .correction)) (heading-correction (r .heading) (good-heading r g))
+    either-cases (eqb (r .heading .correction) 0) (goodCorrection (r .heading .correction)) (heading-parts (r .heading) (good-parts r g .heading) .correction)
     (laid-bare r)
     (laid-corrected r)
 
@@ -188,11 +167,11 @@ module _
     before-all f space cr lf imp r g =
         rw (
           all-append f (line (headingWords (r .heading))),
-          line-all f space imp (headingWords (r .heading)) (plain-heading (r .heading) (good-heading r g)),
+          line-all f space imp (headingWords (r .heading)) (plain-heading (r .heading) (good-parts r g .heading)),
           cr,
           lf,
           all-append f (line (lineWords (r .line))),
-          line-all f space imp (lineWords (r .line)) (plain-line (r .line) (good-line r g)),
+          line-all f space imp (lineWords (r .line)) (plain-line (r .line) (good-parts r g .line)),
           cr,
           lf,
         )
@@ -217,8 +196,8 @@ module _
         let hs : List (List ℕ) = headingWords (r .heading) in
         let ls : List (List ℕ) = lineWords (r .line) in
         let bs : List (List ℕ) = bodyWords r in
-        words-line hs newLine (line ls ++ (newLine ++ line bs)) (solid-words hs (plain-heading (r .heading) (good-heading r g))) gap-crlf
-        ∙ (ap (λ (ws : List (List ℕ)). hs ++ ws) (words-line ls newLine (line bs) (solid-words ls (plain-line (r .line) (good-line r g))) gap-crlf
+        words-line hs newLine (line ls ++ (newLine ++ line bs)) (solid-words hs (plain-heading (r .heading) (good-parts r g .heading))) gap-crlf
+        ∙ (ap (λ (ws : List (List ℕ)). hs ++ ws) (words-line ls newLine (line bs) (solid-words ls (plain-line (r .line) (good-parts r g .line))) gap-crlf
         ∙ ap (λ (ws : List (List ℕ)). ls ++ ws) (words-line-end bs (solid-words bs (plain-body r g))))
         ∙ sym (append-assoc hs (ls ++ bs) ([] ∷ []) ∙ ap (λ (ws : List (List ℕ)). hs ++ ws) (append-assoc ls bs ([] ∷ []))))
 

@@ -2,30 +2,25 @@
 -- Assumes nothing.
 use mathlib.Core.Bool.{true, false}
 use mathlib.Core.List.{List, [], _∷_, _++_, append-nil}
-use mathlib.Core.Path.{_≡_, refl, ap, _∙_}
+use mathlib.Core.Path.{_≡_, refl}
 use Prim.Native.Nat.{ℕ, zero, suc, _-_, _*_, _≤_}
 use native.Mathlib.Omega.{arith}
-use lib.Dec.{eqb, lit<}
-use lib.ListN.{length, drop, getD, replicate}
-use borrow.Author.Tests.{eqb-true, eq-eqb, ne-eqb}
+use lib.Dec.{lit<}
+use lib.ListN.{getD}
+use borrow.Author.Tests.{eq-eqb, ne-eqb}
 use Rattle.lists.specs.Lists.{indexOf, allOf, same}
 use Rattle.lists.specs.Text.{bytes}
-use Rattle.lists.proofs.Choice.{clash, both-left, both-right, both-true, either-left}
+use Rattle.lists.proofs.Choice.{clash, both-true, either-left}
 use Rattle.lists.proofs.Lists.{all-at, same-is}
 use Rattle.words.specs.Bytes.{between, allowed}
 use Rattle.words.specs.Words.{plainWord}
-use Rattle.words.proofs.Ranges.{between-low, between-high}
+use Rattle.words.proofs.Ranges.{between-high}
 use Rattle.figures.specs.Keywords.{distinct}
 use Rattle.figures.specs.Reads.{Reads}
 use Rattle.figures.specs.Tables.{numbered}
 use Rattle.figures.proofs.TableLaws.{numbers-reads}
-use Rattle.coordinates.specs.Coordinates.{emptyCoordinate}
-use Rattle.coordinates.specs.Points.{emptyPoint}
-use Rattle.coordinates.proofs.Goodness.{empty-point-is}
 use Rattle.message.specs.Limits.{ws, ashCloud, eruption}
-use Rattle.message.specs.Names.{zeroByte, unusedZero, emptyName, noName}
 use Rattle.message.specs.Reports.{phenomena, emptyVolcano, noVolcano, goodPhenomenon, phenomenonWords}
-use Rattle.message.specs.declared.Name.{Name}
 use Rattle.message.specs.declared.Volcano.{Volcano}
 use Rattle.message.proofs.Empties.{empty-volcano-is, no-volcano-empty}
 use Rattle.grammar.specs.Placing.{is}

@@ -10,7 +10,6 @@ use borrow.Author.Tests.{eqb-true, not-true}
 use Rattle.lists.specs.Choice.{both}
 use Rattle.lists.specs.Lists.{allOf}
 use Rattle.lists.proofs.Choice.{clash, both-left, both-right, both-true}
-use Rattle.coordinates.specs.Coordinates.{emptyCoordinate}
 use Rattle.coordinates.specs.Points.{emptyPoint, noPoint}
 use Rattle.coordinates.specs.declared.Point.{Point}
 use Rattle.coordinates.proofs.Goodness.{empty-is, empty-point-is, none-empty, no-point-empty}

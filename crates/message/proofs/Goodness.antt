@@ -9,7 +9,7 @@ use lib.ListN.{length, take, drop}
 use borrow.Author.Tests.{eqb-true}
 use Rattle.lists.specs.Choice.{both, either}
 use Rattle.lists.specs.Lists.{allOf}
-use Rattle.lists.proofs.Choice.{by, both-left, both-right, both-true, either-cases}
+use Rattle.lists.proofs.Choice.{by, both-left, both-right, either-cases}
 use Rattle.words.specs.Bytes.{between}
 use Rattle.words.proofs.Ranges.{between-low, between-high}
 use Rattle.figures.specs.Letters.{goodLetters}
