@@ -47,7 +47,7 @@ use Rattle.grammar.specs.States.State.{atForm, atTest, atTestText, atCan
 use Rattle.grammar.specs.Steps.{cancels, kindOf, testText, afterTest, stormOf, goodStorm, stepForm, stepWeather, step}
 use Rattle.grammar.proofs.Invariant.{OpeningOk, WeatherOk, Ok}
 use Rattle.grammar.proofs.Moves.{Fine, Sound, chosen, goes-if, fine-as, fine-end, Next, next-by, next-end, walk-step}
-use Rattle.grammar.proofs.Moves.Fine.{leads, ends}
+use Rattle.grammar.proofs.Moves.Fine.{leads}
 use Rattle.grammar.proofs.Opening.{good-formed, reads-on}
 use Rattle.grammar.proofs.Told.{told, toldArea, onward, onward-last, told-test, told-cancellation}
 use Rattle.grammar.proofs.Weather.{storm-reads}

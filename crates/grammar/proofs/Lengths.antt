@@ -40,7 +40,7 @@ use Rattle.motions.specs.Speeds.{unitWords, spellSpeed}
 use Rattle.motions.specs.declared.Speed.{Speed}
 use Rattle.names.specs.Names.{closingWords, onto, pieces}
 use Rattle.names.proofs.NameLaws.{pieces-some}
-use Rattle.message.specs.Limits.{nameBytes, mountainLimit, ws, cta, eruption}
+use Rattle.message.specs.Limits.{nameBytes, mountainLimit, cta, eruption}
 use Rattle.message.specs.Locations.{emptySide, locatedBy, goodExtent, sideWords, boundWords, dashed, joined, locationWords, extentWords}
 use Rattle.message.specs.Names.{goodName, emptyName, nameWords}
 use Rattle.message.specs.Records.{goodArea, goodForm, good}

@@ -44,7 +44,7 @@ use Rattle.grammar.specs.States.Move.{goes}
 use Rattle.grammar.specs.Steps.{levelled, stepLevel, closingAt, after, settled, stepPlace, step}
 use Rattle.grammar.proofs.Invariant.{ObservationOk, LocationOk, LevelOk, ForecastOk, SiteOk, OutlineOk, PlacingOk, Ok, placeMark}
 use Rattle.grammar.proofs.Moves.{Fine, fine-as, fine-end, Next, next-by, next-end}
-use Rattle.grammar.proofs.Moves.Fine.{leads, ends, dies}
+use Rattle.grammar.proofs.Moves.Fine.{leads, dies}
 use Rattle.grammar.proofs.Outlines.{pointAt, latitude-on, dash-on, longitude-on, longitude-there, first-good, other-latitude, first-latitude, first-longitude, east, east-zero, north, north-zero, Elsewhere, elsewhere}
 use Rattle.grammar.proofs.PlaceLaws.{PlaceFine, place-fine, outline-last, good-side, bounded-first, first-side}
 use Rattle.grammar.proofs.PlaceLaws.PlaceFine.{goesOn, isThere, isPast, isNowhere}

@@ -9,7 +9,6 @@ use lib.Dec.{eqb}
 use lib.ListN.{length}
 use borrow.Author.Tests.{eq-eqb, ne-eqb, eqb-true, eqb-false}
 use Rattle.lists.specs.Lists.{allOf}
-use Rattle.lists.specs.Text.{bytes}
 use Rattle.lists.proofs.Choice.{by, clash, both-left, both-right}
 use Rattle.words.specs.Check.{checkOf}
 use Rattle.words.specs.Words.{Word, wordsAt, wordsIn, solidWord}
