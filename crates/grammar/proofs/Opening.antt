@@ -53,7 +53,7 @@ pub four-reads : Reads (lettersOf 4) (inLetters 4) (goodLetters 4) 0
 four-reads = letters-reads 4 (lit< tt) (lit< tt)
 
 -- a correction is no 0, which stands for none
-some-correction : (c : ℕ) → goodCorrection c ≡ true → eqb c 0 ≡ false
+pub some-correction : (c : ℕ) → goodCorrection c ≡ true → eqb c 0 ≡ false
 unfolding goodCorrection
 some-correction c g = by (eqb c 0) (λ e. clash false (rw (eqb-true c 0 e) at g) refl) (λ e. e)
 
@@ -185,9 +185,9 @@ pub reads-on : {A : Type 0} {read : List ℕ → A} {spell : A → List ℕ} {go
 reads-on laws next v g = rw (laws .forth v g, g)
 
 -- four letters are no correction, which has three bytes
-no-correction : (u : ℕ) → correctionOf (inLetters 4 u) ≡ 0
+pub no-correction : (u : ℕ) → goodCorrection (correctionOf (inLetters 4 u)) ≡ false
 unfolding correctionOf
-no-correction u = rw (length-inLetters 4 u)
+no-correction u = rw (length-inLetters 4 u) (correction-reads .refuses)
 
 forth-three : (h : Heading) (ws : List (List ℕ)) → goodHeading h ≡ true
     → walk (goes atDesignator) (headingWords h ++ ws) ≡ walk (goes (atCorrection (h .designator) (h .centre) (h .sent))) (correctionWords (h .correction) ++ ws)
@@ -234,7 +234,7 @@ unfolding lineWords unitless step
 plainly d c s l ws g =
     let h : Heading = record { designator = d; centre = c; sent = s; correction = 0 } in
     walk-step (atCorrection d c s) (atSigmet h (l .unit)) (inLetters 4 (l .unit)) (unitless l ++ ws)
-    (rw (no-correction (l .unit), correction-reads .refuses) (reads-on four-reads (atSigmet h) (l .unit) (line-parts l g .unit)))
+    (rw (no-correction (l .unit)) (reads-on four-reads (atSigmet h) (l .unit) (line-parts l g .unit)))
     ∙ forth-unitless h l ws g
 
 forth-correction : (h : Heading) (l : FirstLine) (ws : List (List ℕ)) → goodHeading h ≡ true → goodLine l ≡ true

@@ -122,6 +122,9 @@ pub entirely-good : goodExtent entirely ≡ true
 unfolding goodExtent
 entirely-good = no-points-empty
 
+pub first-none : firstGood noSide ≡ true
+first-none = rw no-side-empty
+
 pub first-side : (latitude : Side) → goodSide northSouth latitude ≡ true → firstGood latitude ≡ true
 first-side latitude g = rw (latitude-full latitude g) g
 
@@ -197,7 +200,7 @@ module _ (closing : ℕ) (w : List ℕ) where
       (λ e. goesOn {next = atLatitudeOf (getD w 0 0)} (record { ok = side-letter northSouth w e .0; words = rw (side-letter northSouth w e .1); part = λ site. refl }))
       (λ n. settle (sideWord eastWest w)
       (λ e. goesOn {next = atLongitudeOf noSide (getD w 0 0)}
-      (record { ok = (rw no-side-empty, side-letter eastWest w e .0); words = rw (no-side-empty, side-letter eastWest w e .1); part = λ site. refl }))
+      (record { ok = (first-none, side-letter eastWest w e .0); words = rw (no-side-empty, side-letter eastWest w e .1); part = λ site. refl }))
       (λ m. settle (is "ENTIRE" w)
       (λ e. goesOn {next = atEntire} (record { ok = tt; words = rw (same-is w (bytes "ENTIRE") e); part = λ site. refl }))
       (λ k. on-if {next = atLatitude []} (is "WI" w)

@@ -29,7 +29,6 @@ use Rattle.message.specs.Records.{good}
 use Rattle.message.specs.declared.Ending.the-variants.{Forecast}
 use Rattle.message.specs.declared.Extent.{Extent}
 use Rattle.message.specs.declared.Side.{Side}
-use Rattle.message.proofs.Empties.{no-side-empty}
 use Rattle.grammar.specs.Numbers.{locationPart, placeNumber}
 use Rattle.grammar.specs.Parts.{marked}
 use Rattle.grammar.specs.Placing.{is, Placed, closes, sameLatitude, roomAfter, entireWord, locating, placeStep}
@@ -46,7 +45,7 @@ use Rattle.grammar.proofs.Invariant.{ObservationOk, LocationOk, LevelOk
 use Rattle.grammar.proofs.Moves.{Fine, fine-as, fine-end, Next, next-by, next-end}
 use Rattle.grammar.proofs.Moves.Fine.{leads, dies}
 use Rattle.grammar.proofs.Outlines.{pointAt, latitude-on, dash-on, longitude-on, longitude-there, first-good, other-latitude, first-latitude, first-longitude, east, east-zero, north, north-zero, Elsewhere, elsewhere}
-use Rattle.grammar.proofs.PlaceLaws.{PlaceFine, place-fine, outline-last, good-side, bounded-first, first-side}
+use Rattle.grammar.proofs.PlaceLaws.{PlaceFine, place-fine, outline-last, good-side, bounded-first, first-none, first-side}
 use Rattle.grammar.proofs.PlaceLaws.PlaceFine.{goesOn, isThere, isPast, isNowhere}
 use Rattle.grammar.proofs.Told.{onward, onward-last, placingWords, toldSite, told, toldRecord}
 
@@ -209,7 +208,7 @@ module _ (ending : (l : ToLevel) → LevelOk l → Next (atEnding l)) where
         (and-next site s ok (good-side northSouth s placed north-zero))
 
     first-bound : Next (atPlace site (atLongitudeOf noSide (code "E")))
-    first-bound = longitude-of noSide (code "E") (rw no-side-empty, refl)
+    first-bound = longitude-of noSide (code "E") (first-none, refl)
 
     entire-next : Next (atPlace site atEntire)
     unfolding placeStep
