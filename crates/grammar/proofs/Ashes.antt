@@ -16,7 +16,7 @@ use Rattle.words.specs.Words.{plainWord}
 use Rattle.figures.specs.Figures.{figuresOf}
 use Rattle.figures.proofs.Kept.{reads-spelled}
 use Rattle.coordinates.specs.Coordinates.{northSouth, eastWest, coordinateOf, goodCoordinate, spellCoordinate}
-use Rattle.coordinates.specs.Points.{goodPoint, pointWords}
+use Rattle.coordinates.specs.Points.{pointWords}
 use Rattle.coordinates.proofs.Axes.{latitude-reads, longitude-reads, latitude-plain, longitude-plain}
 use Rattle.coordinates.specs.declared.Coordinate.{Coordinate}
 use Rattle.names.specs.Names.{nameWord, inName, pieces}
@@ -26,7 +26,7 @@ use Rattle.message.specs.Reports.{phenomena, goodVolcano, noVolcano, goodPhenom
 use Rattle.message.specs.declared.Name.{Name}
 use Rattle.message.specs.declared.Volcano.{Volcano}
 use Rattle.message.proofs.Empties.{empty-name-is, no-name-empty, no-volcano-empty}
-use Rattle.message.proofs.Goodness.{volcano-parts}
+use Rattle.message.proofs.Goodness.{volcano-parts, volcano-good}
 use Rattle.grammar.specs.Placing.{is}
 use Rattle.grammar.specs.Records.{nameOf}
 use Rattle.grammar.specs.Runs.{walk}
@@ -102,10 +102,10 @@ position-sound o n w ok =
 
 pub position-longitude-sound : (o : ToArea) (n : Name) (c : Coordinate) (w : List ℕ) → Ok (atPositionLongitude o n c)
     → Fine (atPositionLongitude o n c) w (step (atPositionLongitude o n c) w)
-unfolding step told goodVolcano goodPoint
+unfolding step told
 position-longitude-sound o n c w ok =
     goes-if (goodCoordinate eastWest (coordinateOf eastWest w))
-    (λ g. record { ok = (ok .0, both-true (ok .1) (both-true (ok .2) g)); tells = rw (reads-spelled longitude-reads w g) })
+    (λ g. record { ok = (ok .0, volcano-good _ (record { name = ok .1; latitude = ok .2; longitude = g })); tells = rw (reads-spelled longitude-reads w g) })
 
 pub volcano-ash-sound : (o : ToArea) (v : Volcano) (w : List ℕ) → Ok (atVolcanoAsh o v) → Fine (atVolcanoAsh o v) w (step (atVolcanoAsh o v) w)
 unfolding step told
@@ -146,11 +146,11 @@ module _ (observation : (p : ToPhenomenon) → PhenomenonOk p → Next (atObserv
   volcano-ash-next o v ok = next-by (atVolcanoAsh o v) (bytes "VA") (atVolcanoCloud o v) refl refl (volcano-cloud-next o v ok)
 
   pub position-longitude-next : (o : ToArea) (n : Name) (c : Coordinate) → Ok (atPositionLongitude o n c) → Next (atPositionLongitude o n c)
-  unfolding step coordinateOf goodCoordinate figuresOf allOf worthAfter goodVolcano goodPoint
+  unfolding step coordinateOf goodCoordinate figuresOf allOf worthAfter
   position-longitude-next o n c ok =
       let v : Volcano = record { name = n; position = record { latitude = c; longitude = coordinateOf eastWest (bytes "E000") } } in
       next-by (atPositionLongitude o n c) (bytes "E000") (atVolcanoAsh o v) refl refl
-      (volcano-ash-next o v (ok .0, both-true (ok .1) (both-true (ok .2) refl)))
+      (volcano-ash-next o v (ok .0, volcano-good v (record { name = ok .1; latitude = ok .2; longitude = refl })))
 
   pub position-next : (o : ToArea) (n : Name) → Ok (atPosition o n) → Next (atPosition o n)
   unfolding step coordinateOf goodCoordinate figuresOf allOf worthAfter

@@ -404,7 +404,7 @@ plain-level (TopAboveFlight n) g = both-true (level-plain (Flight n) g) refl
 
 module _ (plain-extent : (closing : ℕ) (e : Extent) → goodExtent e ≡ true → allOf plainWord (extentWords closing e) ≡ true) where
   pub plain-ending : (kind : ℕ) (end : Time) (closing : ℕ) (e : Ending) (f : Extent) → goodEnding kind e f ≡ true → allOf plainWord (endingWords end closing e f) ≡ true
-  unfolding goodEnding endingWords allOf allowed
+  unfolding endingWords allOf allowed
   plain-ending kind end closing NoEnding f g = refl
   plain-ending kind end closing (Moving d v i) f g =
       let parts = moving-parts kind d v i f g in

@@ -36,7 +36,7 @@ use Rattle.message.specs.declared.FirstLine.{FirstLine}
 use Rattle.message.specs.declared.Form.{Form}
 use Rattle.message.specs.declared.Heading.{Heading}
 use Rattle.message.specs.declared.Report.{Report}
-use Rattle.message.proofs.Goodness.{heading-parts, line-parts}
+use Rattle.message.proofs.Goodness.{heading-parts, heading-good, line-parts, line-good}
 use Rattle.grammar.specs.Placing.{is}
 use Rattle.grammar.specs.Records.{formed}
 use Rattle.grammar.specs.Runs.{walk}
@@ -73,22 +73,22 @@ unfolding step told
 centre-sound d w ok = goes-if (goodLetters 4 (lettersOf 4 w)) (λ g. record { ok = (ok, g); tells = rw (reads-spelled four-reads w g) })
 
 pub sent-sound : (d : Designator) (c : ℕ) (w : List ℕ) → Ok (atSent d c) → Fine (atSent d c) w (step (atSent d c) w)
-unfolding step told goodHeading
+unfolding step told
 sent-sound d c w ok =
     goes-if (goodGroup (groupOf w))
-    (λ g. record { ok = both-true (ok .0) (both-true (ok .1) (both-true g refl)); tells = rw (reads-spelled group-reads w g) })
+    (λ g. record { ok = heading-good _ (record { designator = ok .0; centre = ok .1; sent = g; correction = refl }); tells = rw (reads-spelled group-reads w g) })
 
 pub unit-sound : (h : Heading) (w : List ℕ) → Ok (atUnit h) → Fine (atUnit h) w (step (atUnit h) w)
 unfolding step told
 unit-sound h w ok = goes-if (goodLetters 4 (lettersOf 4 w)) (λ g. record { ok = (ok, g); tells = rw (reads-spelled four-reads w g) })
 
 pub correction-sound : (d : Designator) (c : ℕ) (g : Group) (w : List ℕ) → Ok (atCorrection d c g) → Fine (atCorrection d c g) w (step (atCorrection d c g) w)
-unfolding step told goodHeading
+unfolding step told
 correction-sound d c g w ok =
     let parts = heading-parts (record { designator = d; centre = c; sent = g; correction = 0 }) ok in
     chosen (goodCorrection (correctionOf w))
     (λ e. leads (record {
-      ok = both-true (parts .designator) (both-true (parts .centre) (both-true (parts .sent) (either-right (eqb (correctionOf w) 0) e)));
+      ok = heading-good _ (record { designator = parts .designator; centre = parts .centre; sent = parts .sent; correction = either-right (eqb (correctionOf w) 0) e });
       tells = rw (some-correction (correctionOf w) e, reads-spelled correction-reads w e);
     }))
     (λ e. fine-as (atCorrection d c g) (atUnit (record { designator = d; centre = c; sent = g; correction = 0 })) refl refl (unit-sound (record { designator = d; centre = c; sent = g; correction = 0 }) w ok))
@@ -112,19 +112,19 @@ period-sound h u s w ok =
     goes-if (goodPeriod (periodOf w)) (λ g. record { ok = (ok .0, ok .1, ok .2, g); tells = rw (reads-spelled period-reads w g) })
 
 pub office-sound : (h : Heading) (u : ℕ) (s : Sequence) (p : Period) (w : List ℕ) → Ok (atOffice h u s p) → Fine (atOffice h u s p) w (step (atOffice h u s p) w)
-unfolding step told goodLine lineWords
+unfolding step told lineWords
 office-sound h u s p w ok =
     goes-if (goodLetters 4 (officeOf w))
-    (λ g. record { ok = (ok .0, both-true (ok .1) (both-true (ok .2) (both-true (ok .3) g))); tells = rw (reads-spelled office-reads w g) })
+    (λ g. record { ok = (ok .0, line-good _ (record { unit = ok .1; sequence = ok .2; valid = ok .3; office = g })); tells = rw (reads-spelled office-reads w g) })
 
 -- Live.
 
 module _ (indicator : (h : Heading) (l : FirstLine) → Ok (atIndicator h l) → Next (atIndicator h l)) where
   pub office-next : (h : Heading) (u : ℕ) (s : Sequence) (p : Period) → Ok (atOffice h u s p) → Next (atOffice h u s p)
-  unfolding step officeOf lettersOf goodLetters goodLine worthAfter places allOf
+  unfolding step officeOf lettersOf goodLetters worthAfter places allOf
   office-next h u s p ok =
       let l : FirstLine = record { unit = u; sequence = s; valid = p; office = officeOf (bytes "QAAA-") } in
-      next-by (atOffice h u s p) (bytes "QAAA-") (atIndicator h l) refl refl (indicator h l (ok .0, both-true (ok .1) (both-true (ok .2) (both-true (ok .3) refl))))
+      next-by (atOffice h u s p) (bytes "QAAA-") (atIndicator h l) refl refl (indicator h l (ok .0, line-good l (record { unit = ok .1; sequence = ok .2; valid = ok .3; office = refl })))
 
   pub period-next : (h : Heading) (u : ℕ) (s : Sequence) → Ok (atPeriod h u s) → Next (atPeriod h u s)
   unfolding step periodOf goodPeriod groupOf goodGroup figuresOf worthAfter allOf
@@ -160,10 +160,10 @@ module _ (indicator : (h : Heading) (l : FirstLine) → Ok (atIndicator h l) →
       next-by (atCorrection d c g) w (atSigmet h (lettersOf 4 w)) refl refl (sigmet-next h (lettersOf 4 w) (ok, refl))
 
   pub sent-next : (d : Designator) (c : ℕ) → Ok (atSent d c) → Next (atSent d c)
-  unfolding step groupOf goodGroup figuresOf worthAfter allOf goodHeading
+  unfolding step groupOf goodGroup figuresOf worthAfter allOf
   sent-next d c ok =
       let w : List ℕ = bytes "180830" in
-      next-by (atSent d c) w (atCorrection d c (groupOf w)) refl refl (correction-next d c (groupOf w) (both-true (ok .0) (both-true (ok .1) refl)))
+      next-by (atSent d c) w (atCorrection d c (groupOf w)) refl refl (correction-next d c (groupOf w) (heading-good _ (record { designator = ok .0; centre = ok .1; sent = refl; correction = refl })))
 
   pub centre-next : (d : Designator) → Ok (atCentre d) → Next (atCentre d)
   unfolding step lettersOf goodLetters worthAfter places allOf

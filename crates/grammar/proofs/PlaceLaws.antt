@@ -26,7 +26,7 @@ use Rattle.message.specs.Locations.{goodSide, emptySide, noSide, goodBound, clo
 use Rattle.message.specs.declared.Extent.{Extent}
 use Rattle.message.specs.declared.Side.{Side}
 use Rattle.message.proofs.Empties.{all-replicate, no-points-empty, no-side-empty}
-use Rattle.message.proofs.Goodness.{side-parts}
+use Rattle.message.proofs.Goodness.{point-good, side-parts}
 use Rattle.grammar.specs.Numbers.{locationPart, followingPart}
 use Rattle.grammar.specs.Placing.{is, Placed, onIf, thereIf, sideWord, entireWord, closes, sameLatitude, roomAfter, pointed, locating, placeStep}
 use Rattle.grammar.specs.Placing.Placed.{on, there, past, nowhere}
@@ -215,23 +215,26 @@ module _ (closing : ℕ) (w : List ℕ) where
 
   pointed-fine : (ps : List Point) (latitude : Coordinate) → OutlineOk ps → goodCoordinate northSouth latitude ≡ true → goodCoordinate eastWest (coordinateOf eastWest w) ≡ true
       → PlaceFine closing (atLongitude ps latitude) w (pointed ps (record { latitude = latitude; longitude = coordinateOf eastWest w }))
-  unfolding pointed goodPoint
+  unfolding pointed
   pointed-fine ps latitude ok g h =
       settle (closes ps p)
       (λ c. there-if {x = outlined (ps ++ (p ∷ []))} (leb leastPoints (length ps + 1))
       (λ l. record { isGood = closed ps ok c l; words = outlined-words closing (ps ++ (p ∷ [])) ∙ told; part = λ site. refl }))
       (λ c. on-if {next = atDash (ps ++ (p ∷ []))} (roomAfter ps)
-      (λ r. record { ok = (outline-last ps p ok (both-true g h) c r, omega (arith, length-append ps (p ∷ []))); words = told; part = λ site. refl }))
+      (λ r. record { ok = (outline-last ps p ok good c r, omega (arith, length-append ps (p ∷ []))); words = told; part = λ site. refl }))
     where
       p : Point
       p = record { latitude = latitude; longitude = coordinateOf eastWest w }
+
+      good : goodPoint p ≡ true
+      good = point-good p (record { latitude = g; longitude = h })
 
       told : _≡_ {A = List (List ℕ)} (bytes "WI" ∷ joined (ps ++ (p ∷ []))) (bytes "WI" ∷ (trailed ps ++ (spellCoordinate northSouth latitude ∷ []) ++ (w ∷ [])))
       told = rw (joined-last ps p, append-assoc (trailed ps) (spellCoordinate northSouth latitude ∷ []) (w ∷ []), reads-spelled longitude-reads w h)
 
       closed : (ps : List Point) → OutlineOk ps → closes ps p ≡ true → leb leastPoints (length ps + 1) ≡ true → goodExtent (outlined (ps ++ (p ∷ []))) ≡ true
       closed [] ok c l = clash false c refl
-      closed (first ∷ ps) ok c l = outlined-good first ps p (ok .points) (both-true g h) (ok .room) (leb-true leastPoints (length (first ∷ ps) + 1) l) (ok .isOpen) c
+      closed (first ∷ ps) ok c l = outlined-good first ps p (ok .points) good (ok .room) (leb-true leastPoints (length (first ∷ ps) + 1) l) (ok .isOpen) c
 
 pub place-fine : (closing : ℕ) (p : Placing) (w : List ℕ) → PlacingOk p → PlaceFine closing p w (placeStep closing p w)
 unfolding placeStep extentWords

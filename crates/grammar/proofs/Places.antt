@@ -13,11 +13,10 @@ use Rattle.lists.specs.Choice.{either}
 use Rattle.lists.specs.Base.{worthAfter}
 use Rattle.lists.specs.Lists.{allOf, same}
 use Rattle.lists.specs.Text.{bytes}
-use Rattle.lists.proofs.Choice.{by, clash, both-true, either-left, either-right, either-cases}
+use Rattle.lists.proofs.Choice.{by, clash, either-left, either-right, either-cases}
 use Rattle.lists.proofs.Lists.{same-refl}
 use Rattle.figures.specs.Figures.{figuresOf}
 use Rattle.coordinates.specs.Coordinates.{northSouth, eastWest, goodCoordinate, spellCoordinate}
-use Rattle.coordinates.specs.Points.{goodPoint}
 use Rattle.coordinates.specs.declared.Coordinate.{Coordinate}
 use Rattle.coordinates.specs.declared.Point.{Point}
 use Rattle.coordinates.proofs.Axes.{latitude-reads, longitude-reads}
@@ -29,6 +28,7 @@ use Rattle.message.specs.Records.{good}
 use Rattle.message.specs.declared.Ending.the-variants.{Forecast}
 use Rattle.message.specs.declared.Extent.{Extent}
 use Rattle.message.specs.declared.Side.{Side}
+use Rattle.message.proofs.Goodness.{point-good}
 use Rattle.grammar.specs.Numbers.{locationPart, placeNumber}
 use Rattle.grammar.specs.Parts.{marked}
 use Rattle.grammar.specs.Placing.{is, Placed, closes, sameLatitude, roomAfter, entireWord, locating, placeStep}
@@ -151,13 +151,12 @@ module _ (ending : (l : ToLevel) → LevelOk l → Next (atEnding l)) where
     one-more : (ps : List Point) (latitude c : Coordinate) → PlacingOk (atLongitude ps latitude) → goodCoordinate eastWest c ≡ true
         → closes ps (pointAt latitude c) ≡ false → roomAfter ps ≡ true
         → ((qs : List Point) → OutlineOk qs → length qs ≡ length ps + 1 → Next (atPlace site (atLatitude qs))) → Next (atPlace site (atLongitude ps latitude))
-    unfolding goodPoint
     one-more ps latitude c placed g n r on′ =
         let p : Point = pointAt latitude c in
         let qs : List Point = ps ++ (p ∷ []) in
         by-word (atLongitude ps latitude) (atDash qs) (spellCoordinate eastWest c) (longitude-on (closingAt site) ps latitude c g n r) refl
         (by-word (atDash qs) (atLatitude qs) (bytes "-") (dash-on (closingAt site) qs) refl
-        (on′ qs (outline-last ps p (placed .0) (both-true (placed .1) g) n r) (length-append ps (p ∷ []))))
+        (on′ qs (outline-last ps p (placed .0) (point-good p (record { latitude = placed .1; longitude = g })) n r) (length-append ps (p ∷ []))))
 
     late-longitude : (ps : List Point) (latitude : Coordinate) → PlacingOk (atLongitude ps latitude) → leastPoints ≤ length ps + 1 → Next (atPlace site (atLongitude ps latitude))
     late-longitude [] latitude placed h = absurd (omega arith)

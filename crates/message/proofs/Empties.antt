@@ -96,7 +96,7 @@ pub no-side-empty : emptySide noSide ≡ true
 unfolding emptySide
 no-side-empty = none-empty
 
-nowhere-is : (l : Location) → isNowhere l ≡ true → l ≡ Nowhere
+pub nowhere-is : (l : Location) → isNowhere l ≡ true → l ≡ Nowhere
 nowhere-is Nowhere e = refl
 nowhere-is (Bounded b) e = clash false e refl
 nowhere-is (Outline n) e = clash false e refl

@@ -1,4 +1,4 @@
--- What a good record has, part by part.
+-- What a good record has, part by part: `X-parts` from the whole, and `X-good` back where it is asked for.
 -- Assumes nothing.
 use mathlib.Core.Bool.{Bool, true, false, not}
 use mathlib.Core.List.{List}
@@ -9,7 +9,7 @@ use lib.ListN.{length, take, drop}
 use borrow.Author.Tests.{eqb-true}
 use Rattle.lists.specs.Choice.{both, either}
 use Rattle.lists.specs.Lists.{allOf}
-use Rattle.lists.proofs.Choice.{by, both-left, both-right, either-cases}
+use Rattle.lists.proofs.Choice.{by, both-left, both-right, both-true, either-cases}
 use Rattle.words.specs.Bytes.{between}
 use Rattle.words.proofs.Ranges.{between-low, between-high}
 use Rattle.figures.specs.Letters.{goodLetters}
@@ -87,6 +87,10 @@ heading-parts h g =
     let t = four (goodDesignator (h .designator)) (goodLetters 4 (h .centre)) (goodGroup (h .sent)) _ g in
     record { designator = t .0; centre = t .1; sent = t .2; correction = t .3 }
 
+pub heading-good : (h : Heading) → GoodHeading h → goodHeading h ≡ true
+unfolding goodHeading
+heading-good h p = both-true (p .designator) (both-true (p .centre) (both-true (p .sent) (p .correction)))
+
 pub record GoodLine (l : FirstLine) : Type 0 where
   pub unit : goodLetters 4 (l .unit) ≡ true
   pub sequence : goodSequence (l .sequence) ≡ true
@@ -98,6 +102,10 @@ unfolding goodLine
 line-parts l g =
     let t = four (goodLetters 4 (l .unit)) (goodSequence (l .sequence)) (goodPeriod (l .valid)) _ g in
     record { unit = t .0; sequence = t .1; valid = t .2; office = t .3 }
+
+pub line-good : (l : FirstLine) → GoodLine l → goodLine l ≡ true
+unfolding goodLine
+line-good l p = both-true (p .unit) (both-true (p .sequence) (both-true (p .valid) (p .office)))
 
 pub record GoodPeriod (p : Period) : Type 0 where
   pub from : goodGroup (p .from) ≡ true
@@ -175,19 +183,15 @@ pub record GoodVolcano (v : Volcano) : Type 0 where
   pub latitude : goodCoordinate northSouth (v .position .latitude) ≡ true
   pub longitude : goodCoordinate eastWest (v .position .longitude) ≡ true
 
-pub record GoodPoint (p : Point) : Type 0 where
-  pub latitude : goodCoordinate northSouth (p .latitude) ≡ true
-  pub longitude : goodCoordinate eastWest (p .longitude) ≡ true
-
-pub point-parts : (p : Point) → goodPoint p ≡ true → GoodPoint p
-unfolding goodPoint
-point-parts p g = record { latitude = both-left _ _ g; longitude = both-right (goodCoordinate northSouth (p .latitude)) _ g }
-
 pub volcano-parts : (v : Volcano) → goodVolcano v ≡ true → GoodVolcano v
 unfolding goodVolcano goodPoint
 volcano-parts v g =
     let t = three (either (emptyName (v .name)) (goodName true mountainLimit (v .name))) (goodCoordinate northSouth (v .position .latitude)) _ g in
     record { name = t .0; latitude = t .1; longitude = t .2 }
+
+pub volcano-good : (v : Volcano) → GoodVolcano v → goodVolcano v ≡ true
+unfolding goodVolcano goodPoint
+volcano-good v p = both-true (p .name) (both-true (p .latitude) (p .longitude))
 
 pub record GoodMoving (d : ℕ) (s : Speed) (i : ℕ) (f : Extent) : Type 0 where
   pub compass : goodCompass d ≡ true
@@ -222,6 +226,18 @@ forecast-parts kind i f g =
     record { kind = both-left _ _ first; intensity = both-right (eqb kind ws) _ first; forecast = both-right (both (eqb kind ws) (goodIntensity i)) _ g }
 
 -- A location.
+
+pub record GoodPoint (p : Point) : Type 0 where
+  pub latitude : goodCoordinate northSouth (p .latitude) ≡ true
+  pub longitude : goodCoordinate eastWest (p .longitude) ≡ true
+
+pub point-parts : (p : Point) → goodPoint p ≡ true → GoodPoint p
+unfolding goodPoint
+point-parts p g = record { latitude = both-left _ _ g; longitude = both-right (goodCoordinate northSouth (p .latitude)) _ g }
+
+pub point-good : (p : Point) → GoodPoint p → goodPoint p ≡ true
+unfolding goodPoint
+point-good p g = both-true (g .latitude) (g .longitude)
 
 pub record GoodSide (a : Axis) (s : Side) : Type 0 where
   pub letter : either (eqb (s .of) (a .plus)) (eqb (s .of) (a .minus)) ≡ true
