@@ -5,29 +5,27 @@ use mathlib.Core.List.{List, [], _∷_, _++_, append-assoc}
 use mathlib.Core.Path.{_≡_, refl, _∙_}
 use Prim.Native.Nat.{ℕ}
 use native.Mathlib.Nat.{le-refl}
-use lib.Dec.{leb, lit<}
+use lib.Dec.{leb}
 use lib.ListN.{length, take}
 use Rattle.lists.specs.Base.{worthAfter, places}
-use Rattle.lists.specs.Choice.{both}
 use Rattle.lists.specs.Lists.{allOf, indexOf, same}
 use Rattle.lists.specs.Text.{bytes}
-use Rattle.lists.proofs.Choice.{both-left, both-right, both-true}
+use Rattle.lists.proofs.Choice.{both-left, both-true}
 use Rattle.lists.proofs.Lists.{all-append}
 use Rattle.words.specs.Words.{plainWord}
 use Rattle.figures.specs.Letters.{lettersOf, inLetters, goodLetters}
 use Rattle.figures.specs.Tables.{numbered}
 use Rattle.figures.proofs.Kept.{reads-spelled}
-use Rattle.figures.proofs.LetterLaws.{length-inLetters, letters-reads}
-use Rattle.figures.proofs.PlainLaws.{inLetters-plain, run-plain}
 use Rattle.names.specs.Names.{closingWords, closingOf, goodClosing, nameWord, inName, pieces}
 use Rattle.names.proofs.NameLaws.{closing-reads, closing-plain}
 use Rattle.message.specs.Limits.{nameBytes}
-use Rattle.message.specs.Names.{goodName, nameWords}
+use Rattle.message.specs.Names.{nameWords}
 use Rattle.message.specs.Records.{goodArea}
 use Rattle.message.specs.Words.{areaWords}
 use Rattle.message.specs.declared.Area.{Area}
 use Rattle.message.specs.declared.FirstLine.{FirstLine}
 use Rattle.message.specs.declared.Heading.{Heading}
+use Rattle.message.proofs.Goodness.{area-parts}
 use Rattle.grammar.specs.Parts.{Marked, marked}
 use Rattle.grammar.specs.Records.{nameOf}
 use Rattle.grammar.specs.Runs.{walk}
@@ -40,13 +38,14 @@ use Rattle.grammar.proofs.Invariant.{OpeningOk, NameOk, Ok}
 use Rattle.grammar.proofs.Moves.{Fine, chosen, goes-if, Next, next-by, walk-step}
 use Rattle.grammar.proofs.Moves.Fine.{leads}
 use Rattle.grammar.proofs.NameText.{begun-name, begun-pieces, grown-name, grown-pieces, open-area, name-words-of, name-of-good, good-name-is, good-name-ok, good-name-plain, forth-name}
+use Rattle.grammar.proofs.Opening.{four-reads, reads-on, four-plain}
 
 -- Sound.
 
 pub indicator-sound : (h : Heading) (l : FirstLine) (w : List ℕ) → Ok (atIndicator h l) → Fine (atIndicator h l) w (step (atIndicator h l) w)
 unfolding step told
 indicator-sound h l w ok =
-    goes-if (goodLetters 4 (lettersOf 4 w)) (λ g. record { ok = (ok .0, ok .1, g); tells = rw (reads-spelled (letters-reads 4 (lit< tt) (lit< tt)) w g) })
+    goes-if (goodLetters 4 (lettersOf 4 w)) (λ g. record { ok = (ok .0, ok .1, g); tells = rw (reads-spelled four-reads w g) })
 
 pub name-sound : (h : Heading) (l : FirstLine) (i : ℕ) (w : List ℕ) → Ok (atName h l i) → Fine (atName h l i) w (step (atName h l i) w)
 unfolding step told
@@ -107,34 +106,22 @@ name-first : (h : Heading) (l : FirstLine) (i : ℕ) (w : List ℕ) → begun fa
 unfolding step
 name-first h l i w g = rw g
 
--- a good area, part by part
+-- a good area
 module _ (a : Area) (g : goodArea a ≡ true) where
-  area-letters : goodLetters 4 (a .indicator) ≡ true
-  unfolding goodArea
-  area-letters = both-left (goodLetters 4 (a .indicator)) (both (goodName false nameBytes (a .name)) (goodClosing (a .closing))) g
-
-  area-rest : both (goodName false nameBytes (a .name)) (goodClosing (a .closing)) ≡ true
-  unfolding goodArea
-  area-rest = both-right (goodLetters 4 (a .indicator)) (both (goodName false nameBytes (a .name)) (goodClosing (a .closing))) g
-
-  area-name : goodName false nameBytes (a .name) ≡ true
-  area-name = both-left (goodName false nameBytes (a .name)) (goodClosing (a .closing)) area-rest
-
-  area-closing : goodClosing (a .closing) ≡ true
-  area-closing = both-right (goodName false nameBytes (a .name)) (goodClosing (a .closing)) area-rest
-
   -- the text of its name
   abbrev area-text : List ℕ
   area-text = take (a .name .count) (a .name .bytes)
 
   area-indicator-step : (h : Heading) (l : FirstLine) → step (atIndicator h l) (inLetters 4 (a .indicator)) ≡ goes (atName h l (a .indicator))
   unfolding step
-  area-indicator-step h l = rw (letters-reads 4 (lit< tt) (lit< tt) .forth (a .indicator) area-letters, area-letters)
+  area-indicator-step h l = reads-on four-reads (atName h l) (a .indicator) (area-parts a g .indicator)
 
   area-closing-step : (h : Heading) (l : FirstLine)
       → step (atMoreName h l (a .indicator) area-text) (numbered 1 closingWords (a .closing)) ≡ goes (atForm (record { heading = h; line = l; area = a }))
   unfolding step
-  area-closing-step h l = rw (closing-reads .forth (a .closing) area-closing, area-closing, ← (good-name-is false nameBytes (le-refl nameBytes) (a .name) area-name))
+  area-closing-step h l =
+      let parts = area-parts a g in
+      rw (closing-reads .forth (a .closing) (parts .closing), parts .closing, ← (good-name-is false nameBytes (le-refl nameBytes) (a .name) (parts .name)))
 
 pub forth-area : (h : Heading) (l : FirstLine) (a : Area) (ws : List (List ℕ)) → goodArea a ≡ true
     → walk (goes (atIndicator h l)) (areaWords a ++ ws) ≡ walk (goes (atForm (record { heading = h; line = l; area = a }))) ws
@@ -144,7 +131,7 @@ forth-area h l a ws g =
     let closing : List ℕ = numbered 1 closingWords (a .closing) in
     walk-step (atIndicator h l) (atName h l i) (inLetters 4 i) ((nameWords (a .name) ++ (closing ∷ [])) ++ ws) (area-indicator-step a g h l)
     ∙ (rw (append-assoc (nameWords (a .name)) (closing ∷ []) ws)
-    (forth-name false nameBytes (atMoreName h l i) (name-on h l i) (atName h l i) (name-first h l i) (area-text a g) (closing ∷ ws) (good-name-ok false nameBytes (le-refl nameBytes) (a .name) (area-name a g)))
+    (forth-name false nameBytes (atMoreName h l i) (name-on h l i) (atName h l i) (name-first h l i) (area-text a g) (closing ∷ ws) (good-name-ok false nameBytes (le-refl nameBytes) (a .name) (area-parts a g .name)))
     ∙ walk-step (atMoreName h l i (area-text a g)) (atForm (record { heading = h; line = l; area = a })) closing ws (area-closing-step a g h l))
 
 -- Plain.
@@ -152,7 +139,8 @@ forth-area h l a ws g =
 pub plain-area : (a : Area) → goodArea a ≡ true → allOf plainWord (areaWords a) ≡ true
 unfolding areaWords allOf
 plain-area a g =
+    let parts = area-parts a g in
     let closing : List ℕ = numbered 1 closingWords (a .closing) in
-    both-true (run-plain (inLetters 4 (a .indicator)) (rw (length-inLetters 4 (a .indicator)) (lit< tt)) (inLetters-plain 4 (a .indicator) (area-letters a g)))
+    both-true (four-plain (a .indicator) (parts .indicator))
     (all-append plainWord (nameWords (a .name)) (closing ∷ [])
-    ∙ both-true (good-name-plain false nameBytes (le-refl nameBytes) (a .name) (area-name a g)) (both-true (closing-plain (a .closing) (area-closing a g)) refl))
+    ∙ both-true (good-name-plain false nameBytes (le-refl nameBytes) (a .name) (parts .name)) (both-true (closing-plain (a .closing) (parts .closing)) refl))

@@ -3,31 +3,30 @@
 use mathlib.Core.Bool.{true, false}
 use mathlib.Core.List.{List, [], _∷_, _++_, append-assoc}
 use mathlib.Core.Path.{_≡_, refl, ap, sym, _∙_}
-use Prim.Native.Nat.{ℕ, zero-le}
-use lib.Dec.{leb, eqb, lit<}
+use Prim.Native.Nat.{ℕ}
+use lib.Dec.{leb, lit<}
 use lib.ListN.{length, take}
-use borrow.Author.Tests.{eqb-true}
 use Rattle.lists.specs.Base.{worthAfter}
-use Rattle.lists.specs.Choice.{both, either}
 use Rattle.lists.specs.Lists.{allOf, indexOf, same}
 use Rattle.lists.specs.Text.{bytes}
-use Rattle.lists.proofs.Choice.{both-left, both-right, both-true, either-right, either-cases}
+use Rattle.lists.proofs.Choice.{both-left, both-true, either-left, either-right, either-cases}
 use Rattle.lists.proofs.Lists.{all-append, same-is}
 use Rattle.words.specs.Bytes.{allowed}
 use Rattle.words.specs.Words.{plainWord}
 use Rattle.figures.specs.Figures.{figuresOf}
 use Rattle.figures.proofs.Kept.{reads-spelled}
-use Rattle.coordinates.specs.Coordinates.{northSouth, eastWest, coordinateOf, goodCoordinate, emptyCoordinate, spellCoordinate}
-use Rattle.coordinates.specs.Points.{goodPoint, emptyPoint, pointWords}
+use Rattle.coordinates.specs.Coordinates.{northSouth, eastWest, coordinateOf, goodCoordinate, spellCoordinate}
+use Rattle.coordinates.specs.Points.{pointWords}
 use Rattle.coordinates.proofs.Axes.{latitude-reads, longitude-reads, latitude-plain, longitude-plain}
-use Rattle.coordinates.proofs.Goodness.{empty-point-is}
 use Rattle.coordinates.specs.declared.Coordinate.{Coordinate}
 use Rattle.names.specs.Names.{nameWord, inName, pieces}
 use Rattle.message.specs.Limits.{mountainLimit, wv, ashCloud, eruption}
-use Rattle.message.specs.Names.{unusedZero, goodName, emptyName, noName}
-use Rattle.message.specs.Reports.{phenomena, goodVolcano, emptyVolcano, noVolcano, goodPhenomenon, mountWords, phenomenonWords}
+use Rattle.message.specs.Names.{goodName, emptyName, noName}
+use Rattle.message.specs.Reports.{phenomena, goodVolcano, noVolcano, goodPhenomenon, mountWords, phenomenonWords}
 use Rattle.message.specs.declared.Name.{Name}
 use Rattle.message.specs.declared.Volcano.{Volcano}
+use Rattle.message.proofs.Empties.{empty-name-is, no-name-empty, no-volcano-empty}
+use Rattle.message.proofs.Goodness.{volcano-parts, volcano-good}
 use Rattle.grammar.specs.Placing.{is}
 use Rattle.grammar.specs.Records.{nameOf}
 use Rattle.grammar.specs.Runs.{walk}
@@ -39,28 +38,13 @@ use Rattle.grammar.proofs.Told.{told, toldArea, mountainWords, onward-a
 use Rattle.grammar.proofs.Invariant.{AshOk, NameOk, MountainOk, PhenomenonOk, Ok}
 use Rattle.grammar.proofs.Moves.{Fine, chosen, goes-if, Next, next-by, walk-step}
 use Rattle.grammar.proofs.Moves.Fine.{leads}
-use Rattle.grammar.proofs.NameText.{begun-name, begun-pieces, grown-name, grown-pieces, open-mountain, name-words-of, name-of-good, name-of-some, unused-is, good-name-is, good-name-ok, good-name-some, good-name-plain, forth-name}
-
--- Empty ones.
-
-pub empty-name-is : (n : Name) → emptyName n ≡ true → n ≡ noName
-unfolding emptyName
-empty-name-is n e =
-    let none : n .count ≡ 0 = eqb-true (n .count) 0 (both-left (eqb (n .count) 0) (unusedZero n) e) in
-    unused-is n (both-right (eqb (n .count) 0) (unusedZero n) e) (rw none zero-le) ∙ ap (λ (k : ℕ). nameOf (take k (n .bytes))) none
-
-pub empty-volcano-is : (v : Volcano) → emptyVolcano v ≡ true → v ≡ noVolcano
-unfolding emptyVolcano
-empty-volcano-is v e = λ i. record {
-  name = empty-name-is (v .name) (both-left (emptyName (v .name)) (emptyPoint (v .position)) e) i;
-  position = empty-point-is (v .position) (both-right (emptyName (v .name)) (emptyPoint (v .position)) e) i;
-}
+use Rattle.grammar.proofs.NameText.{begun-name, begun-pieces, grown-name, grown-pieces, open-mountain, name-words-of, name-of-good, name-of-some, good-name-is, good-name-ok, good-name-some, good-name-plain, forth-name}
 
 -- Sound.
 
 cloud-good : goodPhenomenon wv ashCloud noVolcano ≡ true
-unfolding goodPhenomenon emptyVolcano emptyName emptyPoint emptyCoordinate allOf
-cloud-good = refl
+unfolding goodPhenomenon
+cloud-good = rw no-volcano-empty
 
 weather-ok : (o : ToArea) → AshOk o → PhenomenonOk (weather o ashCloud)
 weather-ok o ok = record { before = ok .opening; phenomenon = rw (ok .kind) cloud-good }
@@ -72,12 +56,10 @@ ash-sound o w ok =
     (λ e. goes-if (is "ERUPTION" w) (λ g. record { ok = ok; tells = rw (same-is w (bytes "ERUPTION") g) }))
 
 no-mountain : MountainOk noName
-unfolding emptyName allOf
-no-mountain = refl
+no-mountain = either-left _ no-name-empty
 
 no-mountain-words : mountainWords noName ≡ []
-unfolding emptyName allOf
-no-mountain-words = refl
+no-mountain-words = rw no-name-empty
 
 pub eruption-sound : (o : ToArea) (w : List ℕ) → Ok (atEruption o) → Fine (atEruption o) w (step (atEruption o) w)
 unfolding step told
@@ -120,10 +102,10 @@ position-sound o n w ok =
 
 pub position-longitude-sound : (o : ToArea) (n : Name) (c : Coordinate) (w : List ℕ) → Ok (atPositionLongitude o n c)
     → Fine (atPositionLongitude o n c) w (step (atPositionLongitude o n c) w)
-unfolding step told goodVolcano goodPoint
+unfolding step told
 position-longitude-sound o n c w ok =
     goes-if (goodCoordinate eastWest (coordinateOf eastWest w))
-    (λ g. record { ok = (ok .0, both-true (ok .1) (both-true (ok .2) g)); tells = rw (reads-spelled longitude-reads w g) })
+    (λ g. record { ok = (ok .0, volcano-good _ (record { name = ok .1; latitude = ok .2; longitude = g })); tells = rw (reads-spelled longitude-reads w g) })
 
 pub volcano-ash-sound : (o : ToArea) (v : Volcano) (w : List ℕ) → Ok (atVolcanoAsh o v) → Fine (atVolcanoAsh o v) w (step (atVolcanoAsh o v) w)
 unfolding step told
@@ -164,11 +146,11 @@ module _ (observation : (p : ToPhenomenon) → PhenomenonOk p → Next (atObserv
   volcano-ash-next o v ok = next-by (atVolcanoAsh o v) (bytes "VA") (atVolcanoCloud o v) refl refl (volcano-cloud-next o v ok)
 
   pub position-longitude-next : (o : ToArea) (n : Name) (c : Coordinate) → Ok (atPositionLongitude o n c) → Next (atPositionLongitude o n c)
-  unfolding step coordinateOf goodCoordinate figuresOf allOf worthAfter goodVolcano goodPoint
+  unfolding step coordinateOf goodCoordinate figuresOf allOf worthAfter
   position-longitude-next o n c ok =
       let v : Volcano = record { name = n; position = record { latitude = c; longitude = coordinateOf eastWest (bytes "E000") } } in
       next-by (atPositionLongitude o n c) (bytes "E000") (atVolcanoAsh o v) refl refl
-      (volcano-ash-next o v (ok .0, both-true (ok .1) (both-true (ok .2) refl)))
+      (volcano-ash-next o v (ok .0, volcano-good v (record { name = ok .1; latitude = ok .2; longitude = refl })))
 
   pub position-next : (o : ToArea) (n : Name) → Ok (atPosition o n) → Next (atPosition o n)
   unfolding step coordinateOf goodCoordinate figuresOf allOf worthAfter
@@ -229,35 +211,19 @@ forth-some-mountain o n ws g =
     ∙ (forth-name true mountainLimit (atMoreMountain o) (mountain-on o) (atMountain o) (mountain-first o) t (bytes "PSN" ∷ ws) (good-name-ok true mountainLimit (lit< tt) n g)
     ∙ (walk-step (atMoreMountain o t) (atPosition o (nameOf t)) (bytes "PSN") ws refl ∙ ap (λ (m : Name). walk (goes (atPosition o m)) ws) (sym whole))))
 
--- a good volcano, part by part
+-- a good volcano
 module _ (v : Volcano) (g : goodVolcano v ≡ true) where
-  volcano-name : MountainOk (v .name)
-  unfolding goodVolcano
-  volcano-name = both-left (either (emptyName (v .name)) (goodName true mountainLimit (v .name))) (goodPoint (v .position)) g
-
-  volcano-point : goodPoint (v .position) ≡ true
-  unfolding goodVolcano
-  volcano-point = both-right (either (emptyName (v .name)) (goodName true mountainLimit (v .name))) (goodPoint (v .position)) g
-
-  volcano-latitude : goodCoordinate northSouth (v .position .latitude) ≡ true
-  unfolding goodPoint
-  volcano-latitude = both-left (goodCoordinate northSouth (v .position .latitude)) (goodCoordinate eastWest (v .position .longitude)) volcano-point
-
-  volcano-longitude : goodCoordinate eastWest (v .position .longitude) ≡ true
-  unfolding goodPoint
-  volcano-longitude = both-right (goodCoordinate northSouth (v .position .latitude)) (goodCoordinate eastWest (v .position .longitude)) volcano-point
-
   latitude-step : (o : ToArea) → step (atPosition o (v .name)) (spellCoordinate northSouth (v .position .latitude)) ≡ goes (atPositionLongitude o (v .name) (v .position .latitude))
   unfolding step
-  latitude-step o = rw (latitude-reads .forth (v .position .latitude) volcano-latitude, volcano-latitude)
+  latitude-step o = let k = volcano-parts v g .latitude in rw (latitude-reads .forth (v .position .latitude) k, k)
 
   longitude-step : (o : ToArea) → step (atPositionLongitude o (v .name) (v .position .latitude)) (spellCoordinate eastWest (v .position .longitude)) ≡ goes (atVolcanoAsh o v)
   unfolding step
-  longitude-step o = rw (longitude-reads .forth (v .position .longitude) volcano-longitude, volcano-longitude)
+  longitude-step o = let k = volcano-parts v g .longitude in rw (longitude-reads .forth (v .position .longitude) k, k)
 
   forth-mountain : (o : ToArea) (ws : List (List ℕ)) → walk (goes (atEruption o)) (mountWords v ++ (bytes "PSN" ∷ ws)) ≡ walk (goes (atPosition o (v .name))) ws
   forth-mountain o ws =
-      either-cases (emptyName (v .name)) (goodName true mountainLimit (v .name)) volcano-name (forth-no-mountain o (v .name) ws) (forth-some-mountain o (v .name) ws)
+      either-cases (emptyName (v .name)) (goodName true mountainLimit (v .name)) (volcano-parts v g .name) (forth-no-mountain o (v .name) ws) (forth-some-mountain o (v .name) ws)
 
   -- the point and `VA CLD`
   forth-position : (o : ToArea) (ws : List (List ℕ))
@@ -273,7 +239,7 @@ module _ (v : Volcano) (g : goodVolcano v ≡ true) where
       ∙ (walk-step (atVolcanoAsh o v) (atVolcanoCloud o v) (bytes "VA") (bytes "CLD" ∷ ws) refl
       ∙ walk-step (atVolcanoCloud o v) (atObservation (erupted o v)) (bytes "CLD") ws refl))
 
-  forth-eruption : (o : ToArea) (ws : List (List ℕ)) → kindOf o ≡ wv
+  pub forth-eruption : (o : ToArea) (ws : List (List ℕ)) → kindOf o ≡ wv
       → walk (goes (atForm o)) (phenomenonWords eruption v ++ ws) ≡ walk (goes (atObservation (erupted o v))) ws
   unfolding step same phenomenonWords phenomena
   forth-eruption o ws k =
@@ -284,27 +250,11 @@ module _ (v : Volcano) (g : goodVolcano v ≡ true) where
       ∙ (ap (walk (goes (atEruption o))) (append-assoc (mountWords v) (bytes "PSN" ∷ point) ws)
       ∙ (forth-mountain o (point ++ ws) ∙ forth-position o ws)))
 
-forth-cloud : (o : ToArea) (ws : List (List ℕ)) → kindOf o ≡ wv
+pub forth-cloud : (o : ToArea) (ws : List (List ℕ)) → kindOf o ≡ wv
     → walk (goes (atForm o)) (phenomenonWords ashCloud noVolcano ++ ws) ≡ walk (goes (atObservation (weather o ashCloud))) ws
 unfolding step same phenomenonWords phenomena
 forth-cloud o ws k =
     walk-step (atForm o) (atAsh o) (bytes "VA") (bytes "CLD" ∷ ws) (form-step o k) ∙ walk-step (atAsh o) (atObservation (weather o ashCloud)) (bytes "CLD") ws refl
-
-pub forth-ash : (o : ToArea) (n : ℕ) (v : Volcano) (ws : List (List ℕ)) → kindOf o ≡ wv → goodPhenomenon wv n v ≡ true
-    → walk (goes (atForm o)) (phenomenonWords n v ++ ws) ≡ walk (goes (atObservation (record { before = o; phenomenon = n; volcano = v }))) ws
-unfolding goodPhenomenon
-forth-ash o n v ws k g =
-    either-cases (both (eqb n ashCloud) (emptyVolcano v)) (both (eqb n eruption) (goodVolcano v)) g
-    (λ c. cloud (eqb-true n ashCloud (both-left (eqb n ashCloud) (emptyVolcano v) c)) (empty-volcano-is v (both-right (eqb n ashCloud) (emptyVolcano v) c)))
-    (λ c. erupts (eqb-true n eruption (both-left (eqb n eruption) (goodVolcano v) c)) (both-right (eqb n eruption) (goodVolcano v) c))
-  where
-    cloud : n ≡ ashCloud → v ≡ noVolcano
-        → walk (goes (atForm o)) (phenomenonWords n v ++ ws) ≡ walk (goes (atObservation (record { before = o; phenomenon = n; volcano = v }))) ws
-    cloud e f = rw (e, f) (forth-cloud o ws k)
-
-    erupts : n ≡ eruption → goodVolcano v ≡ true
-        → walk (goes (atForm o)) (phenomenonWords n v ++ ws) ≡ walk (goes (atObservation (record { before = o; phenomenon = n; volcano = v }))) ws
-    erupts e f = rw e (forth-eruption v f o ws k)
 
 -- Plain.
 
@@ -317,7 +267,8 @@ plain-mountain n ok =
 pub plain-volcano : (v : Volcano) → goodVolcano v ≡ true → allOf plainWord (phenomenonWords eruption v) ≡ true
 unfolding phenomenonWords phenomena allOf allowed
 plain-volcano v g =
+    let parts = volcano-parts v g in
     all-append plainWord (mountWords v) (bytes "PSN" ∷ (pointWords (v .position) ++ (bytes "VA" ∷ bytes "CLD" ∷ [])))
-    ∙ both-true (plain-mountain (v .name) (volcano-name v g))
-    (both-true (latitude-plain (v .position .latitude) (volcano-latitude v g))
-    (both-true (longitude-plain (v .position .longitude) (volcano-longitude v g)) refl))
+    ∙ both-true (plain-mountain (v .name) (parts .name))
+    (both-true (latitude-plain (v .position .latitude) (parts .latitude))
+    (both-true (longitude-plain (v .position .longitude) (parts .longitude)) refl))

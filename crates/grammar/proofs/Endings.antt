@@ -7,7 +7,6 @@ use mathlib.Core.Logic.{inl, inr}
 use mathlib.Core.Path.{_≡_, refl, _∙_}
 use Prim.Native.Nat.{ℕ}
 use lib.Dec.{eqb, lit<}
-use lib.ListN.{length, replicate}
 use borrow.Author.Tests.{eqb-true, eq-eqb, not-true}
 use Rattle.lists.specs.Base.{worthAfter}
 use Rattle.lists.specs.Choice.{both}
@@ -21,11 +20,7 @@ use Rattle.figures.specs.Figures.{figuresOf}
 use Rattle.figures.specs.Reads.{Reads}
 use Rattle.figures.proofs.Kept.{Back, reads-spelled}
 use Rattle.figures.proofs.TableLaws.{numbered-all}
-use Rattle.coordinates.specs.Coordinates.{emptyCoordinate}
-use Rattle.coordinates.specs.Points.{emptyPoint, noPoint}
-use Rattle.coordinates.specs.declared.Point.{Point}
-use Rattle.coordinates.proofs.Goodness.{empty-point-is}
-use Rattle.groups.specs.Groups.{onClock, goodGroup, goodPeriod, timeOf, goodTime, spellTime}
+use Rattle.groups.specs.Groups.{goodGroup, timeOf, goodTime, spellTime}
 use Rattle.groups.specs.declared.Period.{Period}
 use Rattle.groups.specs.declared.Time.{Time}
 use Rattle.groups.proofs.GroupLaws.{time-reads, time-plain}
@@ -38,15 +33,16 @@ use Rattle.motions.specs.Speeds.{unitWords, speedOf, goodSpeed, spellSpeed}
 use Rattle.motions.specs.declared.Speed.{Speed}
 use Rattle.motions.proofs.MotionLaws.{compass-reads, compass-plain, intensity-reads, intensity-plain, speed-reads, speed-plain}
 use Rattle.message.specs.Limits.{ws}
-use Rattle.message.specs.Locations.{noPoints, goodExtent, isNowhere, emptyExtent, noExtent, extentWords}
+use Rattle.message.specs.Locations.{goodExtent, noExtent, extentWords}
 use Rattle.message.specs.Records.{goodForm, good}
 use Rattle.message.specs.Reports.{goodEnding, goodReport, endingWords}
 use Rattle.message.specs.declared.Ending.{Ending}
 use Rattle.message.specs.declared.Ending.the-variants.{NoEnding, Moving, Stationary, Forecast}
 use Rattle.message.specs.declared.Extent.{Extent}
-use Rattle.message.specs.declared.Location.{Location}
-use Rattle.message.specs.declared.Location.the-variants.{Nowhere, Bounded, Outline, Entire}
+use Rattle.message.specs.declared.Form.the-variants.{Reported}
 use Rattle.message.specs.declared.Record.{Record}
+use Rattle.message.proofs.Empties.{empty-extent-is, no-extent-empty}
+use Rattle.message.proofs.Goodness.{line-parts, period-parts, moving-parts, stationary-parts, forecast-parts}
 use Rattle.grammar.specs.Placing.{is}
 use Rattle.grammar.specs.Records.{areaOf, reportOf}
 use Rattle.grammar.specs.Runs.{walk}
@@ -56,10 +52,10 @@ use Rattle.grammar.specs.States.Placing.{atLocation}
 use Rattle.grammar.specs.States.Site.{inForecast}
 use Rattle.grammar.specs.States.State.{atPlace, atLevel, atTop, atAbove, atTopAbove, atEnding, atCompass, atSpeed, atMovingIntensity, atStationary, atForecast, atForecastAt, atForecastTime, atEnd}
 use Rattle.grammar.specs.Steps.{kindOf, flightOf, levelled, stepLevel, stepEnding, sameTime, endTime, closingAt, after, step}
-use Rattle.grammar.proofs.Invariant.{OpeningOk, PhenomenonOk, ObservationOk, LocationOk, LevelOk, ForecastOk, SiteOk, Ok}
+use Rattle.grammar.proofs.Invariant.{OpeningOk, PhenomenonOk, LevelOk, ForecastOk, SiteOk, Ok}
 use Rattle.grammar.proofs.Moves.{Fine, chosen, goes-if, Next, next-by, next-end, walk-step}
 use Rattle.grammar.proofs.Moves.Fine.{leads}
-use Rattle.grammar.proofs.Opening.{line-parts, reads-on}
+use Rattle.grammar.proofs.Opening.{good-formed, reads-on}
 use Rattle.grammar.proofs.Told.{onward, toldSite, toldRecord, told, told-report}
 
 -- The number of a `FLnnn`.
@@ -131,14 +127,11 @@ top-above-sound q w ok =
 -- A report whose ending is good is good.
 
 pub good-report : (l : ToLevel) (e : Ending) (f : Extent) → LevelOk l → goodEnding (kindOf (areaOf l)) e f ≡ true → good (reportOf l e f) ≡ true
-unfolding good goodForm goodReport
+unfolding goodForm goodReport
 good-report l e f ok g =
-    let location : LocationOk (l .before) = ok .before in
-    let observation : ObservationOk (l .before .before) = location .before in
-    let phenomenon : PhenomenonOk (l .before .before .before) = observation .before in
-    let opening : OpeningOk (areaOf l) = phenomenon .before in
-    both-true (opening .heading) (both-true (opening .line) (both-true (opening .area)
-    (both-true (phenomenon .phenomenon) (both-true (observation .observation) (both-true (location .extent) (both-true (ok .level) g))))))
+    let phenomenon : PhenomenonOk (l .before .before .before) = ok .before .before .before in
+    good-formed (areaOf l) Reported (reportOf l e f .report) (phenomenon .before)
+    (both-true (phenomenon .phenomenon) (both-true (ok .before .before .observation) (both-true (ok .before .extent) (both-true (ok .level) g))))
 
 pub forecast-end : (l : ToLevel) (i : ℕ) (f : Extent) → ForecastOk l i → goodExtent f ≡ true
     → (good (reportOf l (Forecast i) f) ≡ true)
@@ -167,11 +160,6 @@ compass-sound l w ok = goes-if (goodCompass (compassOf w)) (λ g. record { ok = 
 pub speed-sound : (l : ToLevel) (d : ℕ) (w : List ℕ) → Ok (atSpeed l d) → Fine (atSpeed l d) w (step (atSpeed l d) w)
 unfolding step told
 speed-sound l d w ok = goes-if (goodSpeed (speedOf w)) (λ g. record { ok = (ok .0, ok .1, g); tells = rw (reads-spelled speed-reads w g) })
-
--- no forecast, no location of one
-no-extent-empty : emptyExtent noExtent ≡ true
-unfolding emptyExtent noPoints allOf emptyPoint emptyCoordinate
-no-extent-empty = refl
 
 pub moving-intensity-sound : (l : ToLevel) (d : ℕ) (v : Speed) (w : List ℕ) → Ok (atMovingIntensity l d v) → Fine (atMovingIntensity l d v) w (step (atMovingIntensity l d v) w)
 unfolding step told goodEnding endingWords
@@ -277,12 +265,11 @@ level-next q ok =
 
 -- the end of VALID is a good time
 end-good : (l : ToLevel) → LevelOk l → goodTime (endTime l) ≡ true
-unfolding goodTime goodPeriod goodGroup
+unfolding goodTime goodGroup
 end-good l ok =
     let p : Period = areaOf l .line .valid in
     let opening : OpeningOk (areaOf l) = ok .before .before .before .before in
-    let to : goodGroup (p .to) ≡ true = both-right (goodGroup (p .from)) (goodGroup (p .to)) (line-parts (areaOf l .line) (opening .line) .valid) in
-    both-right (between 1 31 (p .to .day)) (onClock (p .to .hour) (p .to .minute)) to
+    both-right (between 1 31 (p .to .day)) _ (period-parts p (line-parts (areaOf l .line) (opening .line) .valid) .to)
 
 -- its word leads to the forecast's location
 time-step : (l : ToLevel) (i : ℕ) → LevelOk l → step (atForecastTime l i) (spellTime (endTime l)) ≡ goes (atPlace (inForecast l i) atLocation)
@@ -345,54 +332,6 @@ level-first (TopAboveFlight n) g = (bytes "TOP", bytes "ABV" ∷ spellLevelWord 
 
 -- Forth, the ending.
 
-empty-points : (ps : List Point) → allOf emptyPoint ps ≡ true → ps ≡ replicate (length ps) noPoint
-unfolding allOf
-empty-points [] e = refl
-empty-points (p ∷ ps) e =
-    let head : p ≡ noPoint = empty-point-is p (both-left (emptyPoint p) (allOf emptyPoint ps) e) in
-    let tail : ps ≡ replicate (length ps) noPoint = empty-points ps (both-right (emptyPoint p) (allOf emptyPoint ps) e) in
-    cc
-
-nowhere-is : (l : Location) → isNowhere l ≡ true → l ≡ Nowhere
-nowhere-is Nowhere e = refl
-nowhere-is (Bounded b) e = clash false e refl
-nowhere-is (Outline n) e = clash false e refl
-nowhere-is Entire e = clash false e refl
-
--- an empty location is no location
-pub empty-extent-is : (f : Extent) → emptyExtent f ≡ true → f ≡ noExtent
-unfolding emptyExtent noPoints
-empty-extent-is f e =
-    let points : noPoints (f .points) ≡ true = both-right (isNowhere (f .location)) (noPoints (f .points)) e in
-    let long : length (f .points) ≡ 7 = eqb-true (length (f .points)) 7 (both-left (eqb (length (f .points)) 7) (allOf emptyPoint (f .points)) points) in
-    let none : f .points ≡ replicate 7 noPoint = rw long at (empty-points (f .points) (both-right (eqb (length (f .points)) 7) (allOf emptyPoint (f .points)) points)) in
-    λ i. record { location = nowhere-is (f .location) (both-left (isNowhere (f .location)) (noPoints (f .points)) e) i; points = none i }
-
--- what a good ending has
-module _ (kind d : ℕ) (v : Speed) (i : ℕ) (f : Extent) where
-  moving-parts : goodEnding kind (Moving d v i) f ≡ true → (goodCompass d ≡ true) × (goodSpeed v ≡ true) × (goodIntensity i ≡ true) × (emptyExtent f ≡ true)
-  unfolding goodEnding
-  moving-parts g =
-      let motion : Bool = both (goodCompass d) (both (goodSpeed v) (goodIntensity i)) in
-      let m : motion ≡ true = both-left motion (emptyExtent f) g in
-      let n : both (goodSpeed v) (goodIntensity i) ≡ true = both-right (goodCompass d) (both (goodSpeed v) (goodIntensity i)) m in (
-        both-left (goodCompass d) (both (goodSpeed v) (goodIntensity i)) m,
-        both-left (goodSpeed v) (goodIntensity i) n,
-        both-right (goodSpeed v) (goodIntensity i) n,
-        both-right motion (emptyExtent f) g,
-      )
-
-module _ (kind i : ℕ) (f : Extent) where
-  stationary-parts : goodEnding kind (Stationary i) f ≡ true → (goodIntensity i ≡ true) × (emptyExtent f ≡ true)
-  unfolding goodEnding
-  stationary-parts g = (both-left (goodIntensity i) (emptyExtent f) g, both-right (goodIntensity i) (emptyExtent f) g)
-
-  forecast-parts : goodEnding kind (Forecast i) f ≡ true → (eqb kind ws ≡ true) × (goodIntensity i ≡ true) × (goodExtent f ≡ true)
-  unfolding goodEnding
-  forecast-parts g =
-      let first : both (eqb kind ws) (goodIntensity i) ≡ true = both-left (both (eqb kind ws) (goodIntensity i)) (goodExtent f) g in
-      (both-left (eqb kind ws) (goodIntensity i) first, both-right (eqb kind ws) (goodIntensity i) first, both-right (both (eqb kind ws) (goodIntensity i)) (goodExtent f) g)
-
 -- the intensity words are no other first words of an ending
 intensity-other : (i : ℕ) → goodIntensity i ≡ true → both (not (is "MOV" (spellIntensity i))) (not (is "STNR" (spellIntensity i))) ≡ true
 unfolding intensityWords allOf same
@@ -440,14 +379,14 @@ module _ (forth-extent : (site : Site) (e : Extent) (w : List ℕ) (ws : List (L
   forth-ending l NoEnding f ok g = clash false g refl
   forth-ending l (Moving d v i) f ok g =
       let parts = moving-parts (kindOf (areaOf l)) d v i f g in
-      rw (empty-extent-is f (parts .3)) (forth-moving l d v i (parts .0) (parts .1) (parts .2))
+      rw (empty-extent-is f (parts .forecast)) (forth-moving l d v i (parts .compass) (parts .speed) (parts .intensity))
   forth-ending l (Stationary i) f ok g =
       let parts = stationary-parts (kindOf (areaOf l)) i f g in
-      rw (empty-extent-is f (parts .1)) (forth-stationary l i (parts .0))
+      rw (empty-extent-is f (parts .forecast)) (forth-stationary l i (parts .intensity))
   forth-ending l (Forecast i) f ok g =
       let parts = forecast-parts (kindOf (areaOf l)) i f g in
-      forth-forecast l i (extentWords (areaOf l .area .closing) f ++ ([] ∷ [])) ok (parts .0) (parts .1)
-      ∙ forth-extent (inForecast l i) f [] [] (parts .2) refl
+      forth-forecast l i (extentWords (areaOf l .area .closing) f ++ ([] ∷ [])) ok (parts .kind) (parts .intensity)
+      ∙ forth-extent (inForecast l i) f [] [] (parts .forecast) refl
 
 -- Plain: these words have only plain bytes.
 
@@ -465,12 +404,12 @@ plain-level (TopAboveFlight n) g = both-true (level-plain (Flight n) g) refl
 
 module _ (plain-extent : (closing : ℕ) (e : Extent) → goodExtent e ≡ true → allOf plainWord (extentWords closing e) ≡ true) where
   pub plain-ending : (kind : ℕ) (end : Time) (closing : ℕ) (e : Ending) (f : Extent) → goodEnding kind e f ≡ true → allOf plainWord (endingWords end closing e f) ≡ true
-  unfolding goodEnding endingWords allOf allowed
+  unfolding endingWords allOf allowed
   plain-ending kind end closing NoEnding f g = refl
   plain-ending kind end closing (Moving d v i) f g =
       let parts = moving-parts kind d v i f g in
-      both-true (compass-plain d (parts .0)) (both-true (speed-plain v (parts .1)) (both-true (intensity-plain i (parts .2)) refl))
-  plain-ending kind end closing (Stationary i) f g = both-true (intensity-plain i (stationary-parts kind i f g .0)) refl
+      both-true (compass-plain d (parts .compass)) (both-true (speed-plain v (parts .speed)) (both-true (intensity-plain i (parts .intensity)) refl))
+  plain-ending kind end closing (Stationary i) f g = both-true (intensity-plain i (stationary-parts kind i f g .intensity)) refl
   plain-ending kind end closing (Forecast i) f g =
       let parts = forecast-parts kind i f g in
-      both-true (intensity-plain i (parts .1)) (both-true (time-plain end) (plain-extent closing f (parts .2)))
+      both-true (intensity-plain i (parts .intensity)) (both-true (time-plain end) (plain-extent closing f (parts .forecast)))

@@ -6,9 +6,9 @@ use mathlib.Core.Path.{_≡_, refl, ap, _∙_}
 use Prim.Native.Char.{code}
 use Prim.Native.Nat.{ℕ}
 use lib.Dec.{eqb}
-use lib.ListN.{length, take}
+use lib.ListN.{take}
 use borrow.Author.Tests.{eqb-true}
-use Rattle.lists.specs.Choice.{pick, both, either}
+use Rattle.lists.specs.Choice.{pick}
 use Rattle.lists.specs.Lists.{allOf, same}
 use Rattle.lists.specs.Text.{bytes}
 use Rattle.lists.proofs.Choice.{by, clash, both-left, both-right, both-true, both-false-right, either-cases}
@@ -16,17 +16,18 @@ use Rattle.lists.proofs.Lists.{same-refl, all-append}
 use Rattle.words.specs.Bytes.{letter, allowed}
 use Rattle.words.specs.Words.{plainWord}
 use Rattle.figures.proofs.PlainLaws.{letter-plain, plain-cons}
-use Rattle.coordinates.specs.Coordinates.{Axis, northSouth, eastWest, goodCoordinate, emptyCoordinate, spellCoordinate}
-use Rattle.coordinates.specs.Points.{goodPoint, emptyPoint, pointWords}
+use Rattle.coordinates.specs.Coordinates.{Axis, northSouth, eastWest, goodCoordinate, spellCoordinate}
+use Rattle.coordinates.specs.Points.{goodPoint, pointWords}
 use Rattle.coordinates.specs.declared.Point.{Point}
 use Rattle.coordinates.proofs.Axes.{spell-plain, latitude-reads, longitude-reads, latitude-plain, longitude-plain}
-use Rattle.coordinates.proofs.Goodness.{empty-is}
-use Rattle.message.specs.Limits.{mostPoints, cta}
-use Rattle.message.specs.Locations.{goodSide, emptySide, noSide, goodBound, noPoints, locatedBy, goodExtent, noExtent, sideWords, boundWords, dashed, joined, locationWords, extentWords}
+use Rattle.message.specs.Limits.{cta}
+use Rattle.message.specs.Locations.{goodSide, emptySide, noSide, goodBound, locatedBy, goodExtent, sideWords, boundWords, dashed, joined, locationWords, extentWords}
 use Rattle.message.specs.declared.Extent.{Extent}
 use Rattle.message.specs.declared.Location.{Location}
 use Rattle.message.specs.declared.Location.the-variants.{Nowhere, Bounded, Outline, Entire}
 use Rattle.message.specs.declared.Side.{Side}
+use Rattle.message.proofs.Empties.{no-points, no-side}
+use Rattle.message.proofs.Goodness.{point-parts, side-parts, bound-cases, outline-parts}
 use Rattle.grammar.specs.Placing.{is, entireWord, locating, placeStep}
 use Rattle.grammar.specs.Placing.Placed.{on}
 use Rattle.grammar.specs.Records.{bounded, entirely}
@@ -38,23 +39,9 @@ use Rattle.grammar.specs.States.State.{atPlace}
 use Rattle.grammar.specs.States.Move.{goes}
 use Rattle.grammar.specs.Steps.{closingAt, after, step}
 use Rattle.grammar.proofs.Invariant.{letterOn}
-use Rattle.grammar.proofs.Outlines.{walk-on, walk-there, outline-on, empty-points, Outlined, outline-told}
+use Rattle.grammar.proofs.Outlines.{walk-on, walk-there, outline-on, Outlined, outline-told}
 
--- Forth: they lead through it. First, what a good location is made of.
-
-no-points : (ps : List Point) → noPoints ps ≡ true → ps ≡ noExtent .points
-unfolding noPoints
-no-points ps t =
-    let long : length ps ≡ mostPoints = eqb-true (length ps) mostPoints (both-left _ _ t) in
-    rw long at (empty-points ps (both-right (eqb (length ps) mostPoints) (allOf emptyPoint ps) t))
-
-no-side : (s : Side) → emptySide s ≡ true → s ≡ noSide
-unfolding emptySide
-no-side s t = λ i. record { of = eqb-true (s .of) 0 (both-left _ _ t) i; at = empty-is (s .at) (both-right (eqb (s .of) 0) (emptyCoordinate (s .at)) t) i }
-
-side-parts : (a : Axis) (s : Side) → goodSide a s ≡ true → (letterOn a (s .of) ≡ true) × (goodCoordinate a (s .at) ≡ true)
-unfolding goodSide
-side-parts a s g = (both-left _ _ g, both-right (letterOn a (s .of)) (goodCoordinate a (s .at)) g)
+-- Forth: they lead through it.
 
 module _ (closing side : ℕ) where
   north-south : letterOn northSouth side ≡ true → placeStep closing atLocation (side ∷ []) ≡ on (atLatitudeOf side)
@@ -77,7 +64,7 @@ module _ (site : Site) where
   unfolding placeStep same
   longitude-words p latitude longitude ws g e =
       let c : List ℕ = spellCoordinate eastWest (longitude .at) in
-      let h : goodCoordinate eastWest (longitude .at) ≡ true = side-parts eastWest longitude g .1 in
+      let h : goodCoordinate eastWest (longitude .at) ≡ true = side-parts eastWest longitude g .at in
       walk-on site p (longitude .of ∷ []) (bytes "OF" ∷ c ∷ ws) (atLongitudeOf latitude (longitude .of)) e
       ∙ (walk-on site (atLongitudeOf latitude (longitude .of)) (bytes "OF") (c ∷ ws) (atLongitudeBound latitude (longitude .of)) refl
       ∙ walk-there site (atLongitudeBound latitude (longitude .of)) c ws (bounded latitude longitude) (rw (longitude-reads .forth (longitude .at) h, h)))
@@ -87,8 +74,8 @@ module _ (site : Site) where
   unfolding placeStep same
   latitude-words latitude ws g =
       let c : List ℕ = spellCoordinate northSouth (latitude .at) in
-      let h : goodCoordinate northSouth (latitude .at) ≡ true = side-parts northSouth latitude g .1 in
-      walk-on site atLocation (latitude .of ∷ []) (bytes "OF" ∷ c ∷ ws) (atLatitudeOf (latitude .of)) (north-south (closingAt site) (latitude .of) (side-parts northSouth latitude g .0))
+      let h : goodCoordinate northSouth (latitude .at) ≡ true = side-parts northSouth latitude g .at in
+      walk-on site atLocation (latitude .of ∷ []) (bytes "OF" ∷ c ∷ ws) (atLatitudeOf (latitude .of)) (north-south (closingAt site) (latitude .of) (side-parts northSouth latitude g .letter))
       ∙ (walk-on site (atLatitudeOf (latitude .of)) (bytes "OF") (c ∷ ws) (atLatitudeBound (latitude .of)) refl
       ∙ walk-on site (atLatitudeBound (latitude .of)) c ws (atAnd latitude) (rw (latitude-reads .forth (latitude .at) h, h)))
 
@@ -102,32 +89,23 @@ walk-past (inForecast l i) latitude w ws n = rw n
 module _ (site : Site) (w : List ℕ) (ws : List (List ℕ)) (n : is "AND" w ≡ false) where
   bound-on : (latitude longitude : Side) → goodBound (record { latitude = latitude; longitude = longitude }) ≡ true
       → walk (goes (atPlace site atLocation)) (boundWords (record { latitude = latitude; longitude = longitude }) ++ (w ∷ ws)) ≡ walk (goes (after site (bounded latitude longitude))) (w ∷ ws)
-  unfolding goodBound boundWords placeStep same
+  unfolding boundWords placeStep same
   bound-on latitude longitude g =
-      by (emptySide latitude)
-      (λ e.
-      let h : goodSide eastWest longitude ≡ true = rw e at g in
-      let i : latitude ≡ noSide = no-side latitude e in
-      rw (e, i) (longitude-words site atLocation noSide longitude (w ∷ ws) h (east-west (closingAt site) (longitude .of) (side-parts eastWest longitude h .0))))
-      (λ e.
-      let h : both (goodSide northSouth latitude) (either (emptySide longitude) (goodSide eastWest longitude)) ≡ true = rw e at g in
-      let k : goodSide northSouth latitude ≡ true = both-left _ _ h in
-      by (emptySide longitude)
-      (λ f. rw (e, f, no-side longitude f) (latitude-words site latitude (w ∷ ws) k ∙ walk-past site latitude w ws n))
-      (λ f.
-      let m : goodSide eastWest longitude ≡ true = rw f at (both-right (goodSide northSouth latitude) (either (emptySide longitude) (goodSide eastWest longitude)) h) in
-      rw (e, f)
-      (latitude-words site latitude (bytes "AND" ∷ (sideWords eastWest longitude ++ (w ∷ ws))) k
+      bound-cases (record { latitude = latitude; longitude = longitude }) g
+      (λ e h. rw (e, no-side latitude e) (longitude-words site atLocation noSide longitude (w ∷ ws) h (east-west (closingAt site) (longitude .of) (side-parts eastWest longitude h .letter))))
+      (λ e h f. rw (e, f, no-side longitude f) (latitude-words site latitude (w ∷ ws) h ∙ walk-past site latitude w ws n))
+      (λ e h f k. rw (e, f)
+      (latitude-words site latitude (bytes "AND" ∷ (sideWords eastWest longitude ++ (w ∷ ws))) h
       ∙ (walk-on site (atAnd latitude) (bytes "AND") (sideWords eastWest longitude ++ (w ∷ ws)) (atSecondBound latitude) refl
-      ∙ longitude-words site (atSecondBound latitude) latitude longitude (w ∷ ws) m (second (closingAt site) (longitude .of) latitude (side-parts eastWest longitude m .0))))))
+      ∙ longitude-words site (atSecondBound latitude) latitude longitude (w ∷ ws) k (second (closingAt site) (longitude .of) latitude (side-parts eastWest longitude k .letter)))))
 
   located : (l : Location) (ps : List Point) → locatedBy l ps ≡ true
       → walk (goes (atPlace site atLocation)) (locationWords (closingAt site) l ps ++ (w ∷ ws)) ≡ walk (goes (after site (record { location = l; points = ps }))) (w ∷ ws)
   unfolding placeStep locating same
   located Nowhere ps g = clash false g refl
-  located (Bounded b) ps g = rw (no-points ps (both-right (goodBound b) (noPoints ps) g)) (bound-on (b .latitude) (b .longitude) (both-left _ _ g))
+  located (Bounded b) ps g = rw (no-points ps (both-right (goodBound b) _ g)) (bound-on (b .latitude) (b .longitude) (both-left _ _ g))
   located (Outline k) ps g =
-      let o : Outlined k ps = outline-told k ps g in
+      let o : Outlined k ps = outline-told k ps (outline-parts k ps g) in
       walk-on site atLocation (bytes "WI") (joined (take k ps) ++ (w ∷ ws)) (atLatitude []) refl
       ∙ rw (o .taken, o .whole) (outline-on site (o .before) (o .last) (w ∷ ws) (o .points) (o .end) (o .room) (o .least) (o .isOpen) (o .shut))
   located Entire ps g =
@@ -174,16 +152,16 @@ extent-first closing e g = first-of closing (e .location) (e .points) g
 side-plain : (a : Axis) (s : Side) → letter (a .plus) ≡ true → letter (a .minus) ≡ true → goodSide a s ≡ true → allOf plainWord (sideWords a s) ≡ true
 unfolding allOf allowed
 side-plain a s p m g =
-    let parts : (letterOn a (s .of) ≡ true) × (goodCoordinate a (s .at) ≡ true) = side-parts a s g in
+    let parts = side-parts a s g in
     let l : letter (s .of) ≡ true =
-    either-cases (eqb (s .of) (a .plus)) (eqb (s .of) (a .minus)) (parts .0) (λ e. rw (eqb-true (s .of) (a .plus) e) p) (λ e. rw (eqb-true (s .of) (a .minus) e) m) in
-    both-true (plain-cons (s .of) [] (letter-plain (s .of) l) refl) (both-true (spell-plain a p m (s .at) (parts .1)) refl)
+    either-cases (eqb (s .of) (a .plus)) (eqb (s .of) (a .minus)) (parts .letter) (λ e. rw (eqb-true (s .of) (a .plus) e) p) (λ e. rw (eqb-true (s .of) (a .minus) e) m) in
+    both-true (plain-cons (s .of) [] (letter-plain (s .of) l) refl) (both-true (spell-plain a p m (s .at) (parts .at)) refl)
 
 point-plain : (p : Point) → goodPoint p ≡ true → allOf plainWord (pointWords p) ≡ true
-unfolding allOf goodPoint
+unfolding allOf
 point-plain p g =
-    both-true (latitude-plain (p .latitude) (both-left _ _ g))
-    (both-true (longitude-plain (p .longitude) (both-right (goodCoordinate northSouth (p .latitude)) (goodCoordinate eastWest (p .longitude)) g)) refl)
+    let parts = point-parts p g in
+    both-true (latitude-plain (p .latitude) (parts .latitude)) (both-true (longitude-plain (p .longitude) (parts .longitude)) refl)
 
 dashed-plain : (ps : List Point) → allOf goodPoint ps ≡ true → allOf plainWord (dashed ps) ≡ true
 unfolding dashed allOf allowed
@@ -197,23 +175,21 @@ joined-plain (p ∷ ps) g = all-append plainWord (pointWords p) (dashed ps) ∙ 
 
 bound-plain : (latitude longitude : Side) → goodBound (record { latitude = latitude; longitude = longitude }) ≡ true
     → allOf plainWord (boundWords (record { latitude = latitude; longitude = longitude })) ≡ true
-unfolding goodBound boundWords allOf allowed
+unfolding boundWords allOf allowed
 bound-plain latitude longitude g =
-    by (emptySide latitude) (λ e. rw e (side-plain eastWest longitude refl refl (rw e at g)))
-    (λ e.
-    let h : both (goodSide northSouth latitude) (either (emptySide longitude) (goodSide eastWest longitude)) ≡ true = rw e at g in
-    let front : allOf plainWord (sideWords northSouth latitude) ≡ true = side-plain northSouth latitude refl refl (both-left _ _ h) in
-    by (emptySide longitude) (λ f. rw (e, f) front)
-    (λ f.
-    let m : goodSide eastWest longitude ≡ true = rw f at (both-right (goodSide northSouth latitude) (either (emptySide longitude) (goodSide eastWest longitude)) h) in
-    rw (e, f) (all-append plainWord (sideWords northSouth latitude) (bytes "AND" ∷ sideWords eastWest longitude) ∙ both-true front (side-plain eastWest longitude refl refl m))))
+    bound-cases (record { latitude = latitude; longitude = longitude }) g
+    (λ e h. rw e (side-plain eastWest longitude refl refl h))
+    (λ e h f. rw (e, f) (side-plain northSouth latitude refl refl h))
+    (λ e h f k. rw (e, f)
+    (all-append plainWord (sideWords northSouth latitude) (bytes "AND" ∷ sideWords eastWest longitude)
+    ∙ both-true (side-plain northSouth latitude refl refl h) (side-plain eastWest longitude refl refl k)))
 
 location-plain : (closing : ℕ) (l : Location) (ps : List Point) → locatedBy l ps ≡ true → allOf plainWord (locationWords closing l ps) ≡ true
 unfolding allOf allowed
 location-plain closing Nowhere ps g = clash false g refl
 location-plain closing (Bounded b) ps g = bound-plain (b .latitude) (b .longitude) (both-left _ _ g)
 location-plain closing (Outline n) ps g =
-    let o : Outlined n ps = outline-told n ps g in
+    let o : Outlined n ps = outline-told n ps (outline-parts n ps g) in
     ap (λ (qs : List Point). allOf plainWord (joined qs)) (o .taken)
     ∙ joined-plain (o .before ++ (o .last ∷ [])) (all-append goodPoint (o .before) (o .last ∷ []) ∙ both-true (o .points) (both-true (o .end) refl))
 location-plain closing Entire ps g = by (eqb closing cta) (λ e. rw e) (λ e. rw e)

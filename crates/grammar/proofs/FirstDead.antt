@@ -2,8 +2,8 @@
 -- word they begin none; the number is that of the greatest part that may come next. And the converse.
 -- Assumes nothing.
 use mathlib.Core.Bool.{true}
-use mathlib.Core.List.{List, [], _∷_, _++_, map, append-assoc}
-use mathlib.Core.Logic.{_⊎_, _↔_}
+use mathlib.Core.List.{List, [], _∷_, _++_, map, append-nil, map-append}
+use mathlib.Core.Logic.{_↔_}
 use mathlib.Core.Logic._⊎_.{inl, inr}
 use mathlib.Core.Path.{_≡_, refl, ap, sym, subst, _∙_}
 use Prim.Native.Nat.{ℕ, suc, _≤_}
@@ -14,7 +14,7 @@ use Rattle.message.specs.Records.{good}
 use Rattle.message.specs.declared.Record.{Record}
 use Rattle.grammar.specs.Judged.{messageWords, bytesOf, Whole, Begins, ComesNext, JudgedAs, Numbered, RefusedAt}
 use Rattle.grammar.specs.Numbers.{numberOf}
-use Rattle.grammar.specs.Parts.{Marked, marked, messageParts}
+use Rattle.grammar.specs.Parts.{Marked, marked}
 use Rattle.grammar.specs.Runs.{advance, walk, run}
 use Rattle.grammar.specs.Runs.Ran.{refused}
 use Rattle.grammar.specs.States.{State, Move}
@@ -26,9 +26,8 @@ use Rattle.grammar.proofs.Marks.{unmarked, message-words, marksOf, mark
 use Rattle.grammar.proofs.Moves.{Fine, Next, walk-append}
 use Rattle.grammar.proofs.NumberLaws.{mark-most}
 use Rattle.grammar.proofs.PartLaws.{part-not-zero}
-use Rattle.grammar.proofs.RunLaws.{Alive, Breaks, moveNumber, walk-dead, dead-goes, dead-done, dead-not, done-same, done-not-goes, run-breaks, breaks-run}
+use Rattle.grammar.proofs.RunLaws.{Alive, Breaks, moveNumber, walk-dead, dead-done, dead-not, done-not-goes, run-breaks, breaks-run}
 use Rattle.grammar.proofs.RunLaws.Alive.{going, over}
-use Rattle.grammar.proofs.Told.{map-append}
 
 -- two lists parted at one length have the same element there
 suc-same : {m n : ℕ} → suc m ≡ suc n → m ≡ n
@@ -72,10 +71,6 @@ module _
     leads-on : (ws : List (List ℕ)) (s : State) → walk (start) ws ≡ goes s → (n : Next s) → walk (start) (ws ++ (n .word ∷ n .rest)) ≡ done (n .message)
     unfolding walk
     leads-on ws s e n = walk-append (start) ws (n .word ∷ n .rest) ∙ rw e (n .ends)
-
-    append-nil : (ws : List (List ℕ)) → ws ++ [] ≡ ws
-    append-nil [] = refl
-    append-nil (w ∷ ws) = ap (λ (r : List (List ℕ)). w ∷ r) (append-nil ws)
 
     alive-begins : (ws : List (List ℕ)) (m : Move) → walk (start) ws ≡ m → Alive m → Begins ws
     alive-begins ws (goes s) e a =

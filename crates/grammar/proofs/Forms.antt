@@ -11,16 +11,15 @@ use lib.ListN.{length, take, getD}
 use lib.Seq.{take-suc, take-length}
 use borrow.Author.Tests.{eqb-true, eqb-false, eq-eqb, ne-eqb}
 use Rattle.lists.specs.Base.{worthAfter}
-use Rattle.lists.specs.Choice.{pick, both}
+use Rattle.lists.specs.Choice.{pick}
 use Rattle.lists.specs.Lists.{allOf, same}
 use Rattle.lists.specs.Text.{bytes}
-use Rattle.lists.proofs.Choice.{by, clash, both-left, both-right, both-true, both-false-right}
+use Rattle.lists.proofs.Choice.{by, clash, both-left, both-true, both-false-right}
 use Rattle.lists.proofs.Lists.{all-at, same-is, same-refl}
 use Rattle.words.specs.Bytes.{between, allowed}
 use Rattle.words.specs.Words.{plainWord}
 use Rattle.words.proofs.Ranges.{between-low, between-high}
 use Rattle.figures.specs.Figures.{figuresOf}
-use Rattle.figures.specs.Letters.{goodLetters}
 use Rattle.figures.proofs.Kept.{reads-spelled}
 use Rattle.groups.specs.Groups.{goodGroup, goodPeriod, periodOf, spellPeriod}
 use Rattle.groups.specs.declared.Group.{Group}
@@ -30,16 +29,14 @@ use Rattle.headings.specs.Headings.{typeWords, goodType, goodDesignator}
 use Rattle.headings.specs.Sequences.{goodSequence, sequenceOf, spellSequence}
 use Rattle.headings.specs.declared.Sequence.{Sequence}
 use Rattle.headings.proofs.SequenceLaws.{sequence-reads, sequence-plain}
-use Rattle.coordinates.specs.Coordinates.{emptyCoordinate}
-use Rattle.coordinates.specs.Points.{emptyPoint}
-use Rattle.levels.specs.Levels.{emptyLevel}
 use Rattle.message.specs.Limits.{ws, wv}
-use Rattle.message.specs.Locations.{noPoints, emptyExtent}
-use Rattle.message.specs.Names.{emptyName}
-use Rattle.message.specs.Reports.{emptyVolcano, emptyObservation, emptyEnding, emptyReport, noReport}
-use Rattle.message.specs.Records.{goodHeading, goodLine, sameSequence, sameGroup, namesItself, goodCancellation, goodForm, good}
+use Rattle.message.specs.Reports.{noReport}
+use Rattle.message.specs.Records.{goodLine, sameSequence, sameGroup, namesItself, goodCancellation, goodForm, good}
 use Rattle.message.specs.Words.{testTexts}
 use Rattle.message.specs.declared.FirstLine.{FirstLine}
+use Rattle.message.specs.declared.Form.the-variants.{Test, Cancellation}
+use Rattle.message.proofs.Empties.{no-report-empty}
+use Rattle.message.proofs.Goodness.{three, heading-parts, line-parts, period-parts, cancellation-parts}
 use Rattle.grammar.specs.Parts.{marked}
 use Rattle.grammar.specs.Placing.{is}
 use Rattle.grammar.specs.Records.{testOf, cancellationOf}
@@ -50,7 +47,8 @@ use Rattle.grammar.specs.States.State.{atForm, atTest, atTestText, atCan
 use Rattle.grammar.specs.Steps.{cancels, kindOf, testText, afterTest, stormOf, goodStorm, stepForm, stepWeather, step}
 use Rattle.grammar.proofs.Invariant.{OpeningOk, WeatherOk, Ok}
 use Rattle.grammar.proofs.Moves.{Fine, Sound, chosen, goes-if, fine-as, fine-end, Next, next-by, next-end, walk-step}
-use Rattle.grammar.proofs.Moves.Fine.{leads, ends}
+use Rattle.grammar.proofs.Moves.Fine.{leads}
+use Rattle.grammar.proofs.Opening.{good-formed, reads-on}
 use Rattle.grammar.proofs.Told.{told, toldArea, onward, onward-last, told-test, told-cancellation}
 use Rattle.grammar.proofs.Weather.{storm-reads}
 
@@ -65,8 +63,8 @@ other-kind n g e =
     omega (arith, eqb-false n 2 e)
 
 kind-good : (o : ToArea) → OpeningOk o → goodType (kindOf o) ≡ true
-unfolding goodHeading goodDesignator
-kind-good o ok = both-left (goodType (kindOf o)) _ (both-left (goodDesignator (o .heading .designator)) _ (ok .heading))
+unfolding goodDesignator
+kind-good o ok = both-left (goodType (kindOf o)) _ (heading-parts (o .heading) (ok .heading) .designator)
 
 -- the first word of a WS phenomenon
 weather-sound : (o : ToArea) (w : List ℕ) → WeatherOk o → Fine (atForm o) w (stepWeather o w)
@@ -86,14 +84,9 @@ form-sound o w ok =
     (λ f. chosen (eqb (kindOf o) ws) (λ e. weather-sound o w (record { opening = ok; kind = eqb-true (kindOf o) ws e }))
     (λ n. goes-if (is "VA" w) (λ e. record { ok = record { opening = ok; kind = other-kind (kindOf o) (kind-good o ok) n }; tells = rw (same-is w (bytes "VA") e) })))))
 
--- a test or a cancellation has no report
-no-report : emptyReport noReport ≡ true
-unfolding emptyReport emptyVolcano emptyName emptyPoint emptyCoordinate emptyObservation emptyExtent noPoints emptyLevel emptyEnding allOf
-no-report = refl
-
 pub good-test : (o : ToArea) (n : ℕ) → OpeningOk o → between 1 3 n ≡ true → good (testOf o n) ≡ true
-unfolding good goodForm
-good-test o n ok b = both-true (ok .heading) (both-true (ok .line) (both-true (ok .area) (both-true b no-report)))
+unfolding goodForm
+good-test o n ok b = good-formed o (Test n) noReport ok (both-true b no-report-empty)
 
 -- A test.
 
@@ -137,9 +130,8 @@ cancel-sequence-sound o w ok = goes-if (goodSequence (sequenceOf w)) (λ g. reco
 -- the same group is that group
 same-group-is : (g h : Group) → sameGroup g h ≡ true → g ≡ h
 same-group-is g h e =
-    let rest : both (eqb (g .hour) (h .hour)) (eqb (g .minute) (h .minute)) ≡ true = both-right (eqb (g .day) (h .day)) _ e in
-    group-made (eqb-true (g .day) (h .day) (both-left (eqb (g .day) (h .day)) _ e)) (eqb-true (g .hour) (h .hour) (both-left (eqb (g .hour) (h .hour)) _ rest))
-    (eqb-true (g .minute) (h .minute) (both-right (eqb (g .hour) (h .hour)) _ rest))
+    let t = three (eqb (g .day) (h .day)) (eqb (g .hour) (h .hour)) _ e in
+    group-made (eqb-true (g .day) (h .day) (t .0)) (eqb-true (g .hour) (h .hour) (t .1)) (eqb-true (g .minute) (h .minute) (t .2))
 
 same-group-refl : (g : Group) → sameGroup g g ≡ true
 same-group-refl g = both-true (eq-eqb (g .day) (g .day) refl) (both-true (eq-eqb (g .hour) (g .hour) refl) (eq-eqb (g .minute) (g .minute) refl))
@@ -153,19 +145,14 @@ record Cancels (l : FirstLine) (s : Sequence) (p : Period) : Type 0 where
 cancels-told : (l : FirstLine) (s : Sequence) (p : Period) → cancels l s p ≡ true → Cancels l s p
 unfolding cancels
 cancels-told l s p e =
-    let rest : both (sameGroup (p .to) (l .valid .to)) (not (namesItself l s (p .from))) ≡ true = both-right (goodPeriod p) _ e in
-    record {
-      period = both-left (goodPeriod p) _ e;
-      to = same-group-is (p .to) (l .valid .to) (both-left (sameGroup (p .to) (l .valid .to)) _ rest);
-      other = both-right (sameGroup (p .to) (l .valid .to)) _ rest;
-    }
+    let t = three (goodPeriod p) (sameGroup (p .to) (l .valid .to)) _ e in
+    record { period = t .0; to = same-group-is (p .to) (l .valid .to) (t .1); other = t .2 }
 
 pub good-cancel : (o : ToArea) (s : Sequence) (p : Period) → OpeningOk o → goodSequence s ≡ true → cancels (o .line) s p ≡ true → good (cancellationOf o s (p .from)) ≡ true
-unfolding good goodForm goodPeriod
+unfolding goodForm
 good-cancel o s p ok g e =
     let told : Cancels (o .line) s p = cancels-told (o .line) s p e in
-    let from : goodGroup (p .from) ≡ true = both-left (goodGroup (p .from)) _ (told .period) in
-    both-true (ok .heading) (both-true (ok .line) (both-true (ok .area) (both-true (both-true g (both-true from (told .other))) no-report)))
+    good-formed o (Cancellation s (p .from)) noReport ok (both-true (both-true g (both-true (period-parts p (told .period) .from) (told .other))) no-report-empty)
 
 pub cancel-period-sound : (o : ToArea) (s : Sequence) (w : List ℕ) → Ok (atCancelPeriod o s) → Fine (atCancelPeriod o s) w (step (atCancelPeriod o s) w)
 unfolding step told
@@ -205,18 +192,12 @@ test-text-next o n read ok = go (length (testText n) - suc read) read (omega (ar
         refl
         (go left (suc at) (omega arith))
 
--- the second group of a good line is good
-valid-to : (l : FirstLine) → goodLine l ≡ true → goodGroup (l .valid .to) ≡ true
-unfolding goodLine goodPeriod
-valid-to l g =
-    both-right (goodGroup (l .valid .from)) _ (both-left (goodPeriod (l .valid)) _ (both-right (goodSequence (l .sequence)) _ (both-right (goodLetters 4 (l .unit)) _ g)))
-
 -- the word that a cancellation ends with
 cancel-step : (o : ToArea) (s : Sequence) (from : Group) → goodLine (o .line) ≡ true → goodGroup from ≡ true → not (namesItself (o .line) s from) ≡ true
     → step (atCancelPeriod o s) (spellPeriod (record { from = from; to = o .line .valid .to })) ≡ goes (atEnd (cancellationOf o s from))
 unfolding step cancels goodPeriod
 cancel-step o s from l g other =
-    let to : goodGroup (o .line .valid .to) ≡ true = valid-to (o .line) l in
+    let to = period-parts (o .line .valid) (line-parts (o .line) l .valid) .to in
     rw (period-reads .forth (record { from = from; to = o .line .valid .to }) (both-true g to), g, to, same-group-refl (o .line .valid .to), other)
 
 -- a group other than that one
@@ -271,11 +252,10 @@ pub forth-cancellation : (o : ToArea) (s : Sequence) (from : Group) → goodLine
     ≡ done (cancellationOf o s from)
 unfolding walk step stepForm same
 forth-cancellation o s from l g =
-    let sequence : goodSequence s ≡ true = both-left (goodSequence s) _ g in
-    let rest : both (goodGroup from) (not (namesItself (o .line) s from)) ≡ true = both-right (goodSequence s) _ g in
+    let parts = cancellation-parts (o .line) s from g in
     let last : List ℕ = spellPeriod (record { from = from; to = o .line .valid .to }) in
-    walk-step (atCancelSequence o) (atCancelPeriod o s) (spellSequence s) (last ∷ [] ∷ []) (rw (sequence-reads .forth s sequence, sequence))
-    ∙ walk-step (atCancelPeriod o s) (atEnd (cancellationOf o s from)) last ([] ∷ []) (cancel-step o s from l (both-left (goodGroup from) _ rest) (both-right (goodGroup from) _ rest))
+    walk-step (atCancelSequence o) (atCancelPeriod o s) (spellSequence s) (last ∷ [] ∷ []) (reads-on sequence-reads (atCancelPeriod o) s (parts .sequence))
+    ∙ walk-step (atCancelPeriod o s) (atEnd (cancellationOf o s from)) last ([] ∷ []) (cancel-step o s from l (parts .from) (parts .other))
 
 -- Plain: what is written is made of the bytes that a word may have.
 

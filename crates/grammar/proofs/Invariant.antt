@@ -1,12 +1,12 @@
 -- What holds in every state that is reached: all that was read is good. And which part a word belongs to that a state takes.
 -- Assumes nothing.
 use mathlib.Core.Bool.{Bool, true, false, not}
-use mathlib.Core.List.{List, [], _∷_, _++_}
-use mathlib.Core.Path.{_≡_, refl}
+use mathlib.Core.List.{List, [], _∷_}
+use mathlib.Core.Path.{_≡_}
 use Prim.Native.Nat.{ℕ, _<_, _≤_}
 use lib.Dec.{eqb}
 use lib.ListN.{length}
-use Rattle.lists.specs.Choice.{pick, both, either}
+use Rattle.lists.specs.Choice.{pick, either}
 use Rattle.lists.specs.Lists.{allOf}
 use Rattle.words.specs.Bytes.{between}
 use Rattle.figures.specs.Letters.{goodLetters}
@@ -27,7 +27,7 @@ use Rattle.message.specs.Records.{goodHeading, goodLine, goodArea, good}
 use Rattle.message.specs.Reports.{goodVolcano, goodPhenomenon, goodObservation}
 use Rattle.message.specs.declared.Name.{Name}
 use Rattle.message.specs.declared.Side.{Side}
-use Rattle.grammar.specs.Numbers.{locationPart, followingPart, placeNumber, numberOf}
+use Rattle.grammar.specs.Numbers.{locationPart, followingPart}
 use Rattle.grammar.specs.Placing.{is, roomAfter, sameLatitude}
 use Rattle.grammar.specs.Records.{areaOf}
 use Rattle.grammar.specs.States.{ToArea, ToPhenomenon, ToObservation, ToLocation, ToLevel, Site, Placing, State}

@@ -1,15 +1,15 @@
 -- Every good record's text has at most 2,048 bytes: by the size of its words, each counted with a space, part by part.
 -- Assumes nothing.
-use mathlib.Core.Bool.{Bool, true, false, not}
+use mathlib.Core.Bool.{Bool, true, false}
 use mathlib.Core.List.{List, [], _∷_, _++_}
 use mathlib.Core.Path.{_≡_, refl}
 use Prim.Native.Nat.{ℕ, zero, suc, _+_, _-_, _*_, _^_, _≤_, _<_, zero-le}
 use native.Mathlib.Nat.{not-suc-le-zero}
 use native.Mathlib.Omega.{arith}
 use lib.Dec.{leb, ltb, eqb, lit≤}
-use lib.ListN.{length, take, drop, getD, length-append, length-take}
-use borrow.Author.Tests.{leb-true, le-ltb, eqb-true}
-use Rattle.lists.specs.Choice.{pick, both, either}
+use lib.ListN.{length, take, getD, length-append, length-take}
+use borrow.Author.Tests.{leb-true, le-ltb}
+use Rattle.lists.specs.Choice.{pick, both}
 use Rattle.lists.specs.Lists.{allOf}
 use Rattle.lists.specs.Text.{bytes}
 use Rattle.lists.proofs.Choice.{by, both-left, both-right, either-cases}
@@ -17,34 +17,34 @@ use Rattle.words.specs.Bytes.{between, letter}
 use Rattle.words.specs.Words.{line}
 use Rattle.words.proofs.Ranges.{between-high}
 use Rattle.figures.specs.Figures.{inFigures}
-use Rattle.figures.specs.Letters.{inLetters, goodLetters}
+use Rattle.figures.specs.Letters.{inLetters}
 use Rattle.figures.specs.Tables.{numbered}
 use Rattle.figures.proofs.FigureLaws.{length-inFigures}
 use Rattle.figures.proofs.LetterLaws.{length-inLetters}
 use Rattle.coordinates.specs.Coordinates.{Axis, northSouth, eastWest, spellCoordinate}
-use Rattle.coordinates.specs.Points.{goodPoint, emptyPoint, pointWords}
+use Rattle.coordinates.specs.Points.{pointWords}
 use Rattle.coordinates.specs.declared.Coordinate.{Coordinate}
 use Rattle.coordinates.specs.declared.Point.{Point}
-use Rattle.groups.specs.Groups.{goodGroup, goodPeriod, spellTime}
+use Rattle.groups.specs.Groups.{spellTime}
 use Rattle.groups.specs.declared.Time.{Time}
 use Rattle.groups.proofs.GroupLaws.{length-group, length-period, length-time}
 use Rattle.headings.specs.Headings.{typeWords, spellDesignator, spellOffice}
 use Rattle.headings.specs.Sequences.{characters, goodSequence, letterOf, spellSequence}
 use Rattle.headings.specs.declared.Designator.{Designator}
 use Rattle.headings.specs.declared.Sequence.{Sequence}
-use Rattle.levels.specs.Levels.{feetFigures, spellLevelWord, goodLevel, levelWords}
+use Rattle.levels.specs.Levels.{feetFigures, spellLevelWord, levelWords}
 use Rattle.levels.specs.declared.Level.{Level}
 use Rattle.levels.specs.declared.Level.the-variants.{NoLevel, Flight, SurfaceFlight, SurfaceMetres, SurfaceFeet, Band, TopFlight, AboveFlight, TopAboveFlight}
-use Rattle.motions.specs.Motions.{compassWords, spellCompass, intensityWords, goodIntensity, spellIntensity}
+use Rattle.motions.specs.Motions.{compassWords, spellCompass, intensityWords, spellIntensity}
 use Rattle.motions.specs.Speeds.{unitWords, spellSpeed}
 use Rattle.motions.specs.declared.Speed.{Speed}
-use Rattle.names.specs.Names.{closingWords, goodClosing, onto, pieces, nameText}
+use Rattle.names.specs.Names.{closingWords, onto, pieces}
 use Rattle.names.proofs.NameLaws.{pieces-some}
-use Rattle.message.specs.Limits.{nameBytes, mountainLimit, leastPoints, mostPoints, ws, wv, cta, ashCloud, eruption}
-use Rattle.message.specs.Locations.{emptySide, closingPoint, goodOutline, locatedBy, goodExtent, sideWords, boundWords, dashed, joined, locationWords, extentWords}
-use Rattle.message.specs.Names.{unusedZero, goodName, emptyName, nameWords}
-use Rattle.message.specs.Records.{goodHeading, goodLine, goodArea, namesItself, goodCancellation, goodForm, good}
-use Rattle.message.specs.Reports.{phenomena, goodVolcano, emptyVolcano, goodPhenomenon, mountWords, volcanoWords, phenomenonWords, goodObservation, observationWords, goodEnding, endingWords, goodReport, emptyReport, reportWords}
+use Rattle.message.specs.Limits.{nameBytes, mountainLimit, cta, eruption}
+use Rattle.message.specs.Locations.{emptySide, locatedBy, goodExtent, sideWords, boundWords, dashed, joined, locationWords, extentWords}
+use Rattle.message.specs.Names.{goodName, emptyName, nameWords}
+use Rattle.message.specs.Records.{goodArea, goodForm, good}
+use Rattle.message.specs.Reports.{phenomena, goodVolcano, emptyVolcano, goodPhenomenon, mountWords, volcanoWords, phenomenonWords, observationWords, goodEnding, endingWords, goodReport, reportWords}
 use Rattle.message.specs.Words.{headingWords, lineWords, areaWords, testTexts, timeOfDay, formWords, bodyWords, textOf}
 use Rattle.message.specs.declared.Area.{Area}
 use Rattle.message.specs.declared.Bound.{Bound}
@@ -63,6 +63,8 @@ use Rattle.message.specs.declared.Record.{Record}
 use Rattle.message.specs.declared.Report.{Report}
 use Rattle.message.specs.declared.Side.{Side}
 use Rattle.message.specs.declared.Volcano.{Volcano}
+use Rattle.message.proofs.Empties.{empty-name-is, empty-volcano-is}
+use Rattle.message.proofs.Goodness.{good-parts, line-parts, area-parts, name-parts, cancellation-parts, report-parts, phenomenon-cases, volcano-parts, forecast-parts, outline-parts}
 use Rattle.grammar.specs.Writes.{writeOf}
 
 -- Words, each with a space after it.
@@ -166,24 +168,15 @@ pieces-size (x ∷ xs) = by (eqb x 32)
 name-size : (n : Name) → size (nameWords n) ≤ suc (n .count)
 name-size n = omega (arith, pieces-size (take (n .count) (n .bytes)), length-take (n .count) (n .bytes))
 
-name-count : (mountain : Bool) (limit : ℕ) (n : Name) → goodName mountain limit n ≡ true → n .count ≤ limit
-unfolding goodName
-name-count mountain limit n g =
-    between-high 1 limit (n .count)
-    (both-left (between 1 limit (n .count)) (both (unusedZero n) (nameText mountain (take (n .count) (n .bytes)))) g)
-
 closing-most : (n : ℕ) → length (numbered 1 closingWords n) ≤ 7
 unfolding closingWords allOf
 closing-most n = numbered-most 7 1 closingWords n refl
 
 area-size : (a : Area) → goodArea a ≡ true → size (areaWords a) ≤ 64
-unfolding areaWords goodArea
+unfolding areaWords
 area-size a g =
-    let named : goodName false nameBytes (a .name) ≡ true =
-    both-left (goodName false nameBytes (a .name)) (goodClosing (a .closing))
-    (both-right (goodLetters 4 (a .indicator)) (both (goodName false nameBytes (a .name)) (goodClosing (a .closing))) g) in
     rw (length-inLetters 4 (a .indicator), size-append (nameWords (a .name)) (numbered 1 closingWords (a .closing) ∷ []))
-    (omega (arith, name-size (a .name), name-count false nameBytes (a .name) named, closing-most (a .closing)))
+    (omega (arith, name-size (a .name), name-parts false nameBytes (a .name) (area-parts a g .name) .fits, closing-most (a .closing)))
 
 -- A point, and a location.
 
@@ -224,19 +217,10 @@ unfolding joined
 joined-size [] = zero-le
 joined-size (p ∷ ps) = omega (arith, size-append (pointWords p) (dashed ps), point-size p, dashed-size ps)
 
-outline-most : (n : ℕ) (ps : List Point) → goodOutline n ps ≡ true → n ≤ 7
-unfolding goodOutline
-outline-most n ps g =
-    between-high leastPoints mostPoints n
-    (both-left (between leastPoints mostPoints n)
-    (both (eqb (length ps) mostPoints)
-    (both (allOf goodPoint (take n ps)) (both (eqb (closingPoint ps) (n - 1)) (allOf emptyPoint (drop n ps)))))
-    g)
-
 located-size : (closing : ℕ) (l : Location) (ps : List Point) → locatedBy l ps ≡ true → size (locationWords closing l ps) ≤ 108
 located-size closing Nowhere ps g = zero-le
 located-size closing (Bounded b) ps g = omega (arith, bound-size b)
-located-size closing (Outline n) ps g = omega (arith, joined-size (take n ps), length-take n ps, outline-most n ps g)
+located-size closing (Outline n) ps g = omega (arith, joined-size (take n ps), length-take n ps, outline-parts n ps g .most)
 located-size closing Entire ps g = go (eqb closing cta)
   where
     go : (b : Bool) → size (bytes "ENTIRE" ∷ pick b (bytes "CTA") (bytes "FIR") ∷ []) ≤ 108
@@ -249,32 +233,17 @@ extent-size closing e g = located-size closing (e .location) (e .points) g
 
 -- The parts of a report.
 
-empty-count : (n : Name) → emptyName n ≡ true → n .count ≤ mountainLimit
-unfolding emptyName
-empty-count n e = omega (arith, eqb-true (n .count) 0 (both-left (eqb (n .count) 0) (unusedZero n) e))
-
 empty-volcano : (v : Volcano) → emptyVolcano v ≡ true → v .name .count ≤ mountainLimit
-unfolding emptyVolcano
-empty-volcano v e = empty-count (v .name) (both-left (emptyName (v .name)) (emptyPoint (v .position)) e)
+empty-volcano v e = rw (empty-volcano-is v e) zero-le
 
 good-volcano : (v : Volcano) → goodVolcano v ≡ true → v .name .count ≤ mountainLimit
-unfolding goodVolcano
 good-volcano v g =
-    either-cases (emptyName (v .name)) (goodName true mountainLimit (v .name))
-    (both-left (either (emptyName (v .name)) (goodName true mountainLimit (v .name))) (goodPoint (v .position)) g)
-    (empty-count (v .name))
-    (name-count true mountainLimit (v .name))
+    either-cases (emptyName (v .name)) (goodName true mountainLimit (v .name)) (volcano-parts v g .name)
+    (λ e. rw (empty-name-is (v .name) e) zero-le)
+    (λ e. name-parts true mountainLimit (v .name) e .fits)
 
 volcano-count : (kind n : ℕ) (v : Volcano) → goodPhenomenon kind n v ≡ true → v .name .count ≤ mountainLimit
-unfolding goodPhenomenon
-volcano-count kind n v g =
-    let cloud : Bool = both (eqb n ashCloud) (emptyVolcano v) in
-    let erupts : Bool = both (eqb n eruption) (goodVolcano v) in
-    either-cases (both (eqb kind ws) (both (between 1 15 n) (emptyVolcano v))) (both (eqb kind wv) (either cloud erupts)) g
-    (λ e. empty-volcano v (both-right (between 1 15 n) (emptyVolcano v) (both-right (eqb kind ws) (both (between 1 15 n) (emptyVolcano v)) e)))
-    (λ e. either-cases cloud erupts (both-right (eqb kind wv) (either cloud erupts) e)
-    (λ f. empty-volcano v (both-right (eqb n ashCloud) (emptyVolcano v) f))
-    (λ f. good-volcano v (both-right (eqb n eruption) (goodVolcano v) f)))
+volcano-count kind n v g = phenomenon-cases kind n v g (λ k b e. empty-volcano v e) (λ k c e. empty-volcano v e) (λ k c e. good-volcano v e)
 
 phenomena-size : (i : ℕ) → size (getD phenomena i []) ≤ 15
 unfolding phenomena allOf
@@ -349,40 +318,30 @@ speed-most s =
     (omega (arith, numbered-most 3 1 unitWords (s .unit) refl))
 
 ending-size : (kind : ℕ) (end : Time) (closing : ℕ) (e : Ending) (f : Extent) → goodEnding kind e f ≡ true → size (endingWords end closing e f) ≤ 128
-unfolding endingWords goodEnding
+unfolding endingWords
 ending-size kind end closing NoEnding f g = zero-le
 ending-size kind end closing (Moving d s i) f g = omega (arith, compass-most d, speed-most s, intensity-most i)
 ending-size kind end closing (Stationary i) f g = omega (arith, intensity-most i)
 ending-size kind end closing (Forecast i) f g =
-    omega (
-      arith,
-      intensity-most i,
-      length-time end,
-      extent-size closing f (both-right (both (eqb kind ws) (goodIntensity i)) (goodExtent f) g),
-    )
+    omega (arith, intensity-most i, length-time end, extent-size closing f (forecast-parts kind i f g .forecast))
 
 report-size : (kind : ℕ) (end : Time) (closing : ℕ) (r : Report) → goodReport kind r ≡ true → size (reportWords end closing r) ≤ 343
-unfolding reportWords goodReport
+unfolding reportWords
 report-size kind end closing r g =
+    let parts = report-parts kind r g in
     let p : List (List ℕ) = phenomenonWords (r .phenomenon) (r .volcano) in
     let o : List (List ℕ) = observationWords (r .observation) in
     let e : List (List ℕ) = extentWords closing (r .extent) in
     let l : List (List ℕ) = levelWords (r .level) in
     let f : List (List ℕ) = endingWords end closing (r .ending) (r .forecast) in
-    let four : Bool = both (goodLevel (r .level)) (goodEnding kind (r .ending) (r .forecast)) in
-    let three : Bool = both (goodExtent (r .extent)) four in
-    let two : Bool = both (goodObservation (r .observation)) three in
-    let g₂ : two ≡ true = both-right (goodPhenomenon kind (r .phenomenon) (r .volcano)) two g in
-    let g₃ : three ≡ true = both-right (goodObservation (r .observation)) three g₂ in
-    let g₄ : four ≡ true = both-right (goodExtent (r .extent)) four g₃ in
     rw (size-append p (o ++ (e ++ (l ++ f))), size-append o (e ++ (l ++ f)), size-append e (l ++ f), size-append l f)
     (omega (
       arith,
-      phenomenon-size kind (r .phenomenon) (r .volcano) (both-left (goodPhenomenon kind (r .phenomenon) (r .volcano)) two g),
+      phenomenon-size kind (r .phenomenon) (r .volcano) (parts .phenomenon),
       observation-size (r .observation),
-      extent-size closing (r .extent) (both-left (goodExtent (r .extent)) four g₃),
+      extent-size closing (r .extent) (parts .extent),
       level-size (r .level),
-      ending-size kind end closing (r .ending) (r .forecast) (both-right (goodLevel (r .level)) (goodEnding kind (r .ending) (r .forecast)) g₄),
+      ending-size kind end closing (r .ending) (r .forecast) (parts .ending),
     ))
 
 -- The whole.
@@ -396,10 +355,9 @@ unfolding formWords goodForm
 form-size kind r NoForm g = zero-le
 form-size kind r (Test n) g = omega (arith, tests-size (n - 1))
 form-size kind r (Cancellation s from) g =
-    let named : goodCancellation (r .line) s from ≡ true = both-left (goodCancellation (r .line) s from) (emptyReport (r .report)) g in
     omega (
       arith,
-      sequence-most s (both-left (goodSequence s) (both (goodGroup from) (not (namesItself (r .line) s from))) named),
+      sequence-most s (cancellation-parts (r .line) s from (both-left _ _ g) .sequence),
       length-period (record { from = from; to = r .line .valid .to }),
     )
 form-size kind r Reported g = report-size kind (timeOfDay (r .line .valid .to)) (r .area .closing) (r .report) g
@@ -415,25 +373,17 @@ text-length r =
 
 -- "24 text over 2,048 bytes" is never given with the limits of today
 pub text-fits : (r : Record) → good r ≡ true → length (textOf r) ≤ 2048
-unfolding good goodLine bodyWords
+unfolding bodyWords
 text-fits r g =
-    let form : Bool = goodForm (r .heading .designator .kind) (r .line) (r .report) (r .form) in
-    let two : Bool = both (goodArea (r .area)) form in
-    let one : Bool = both (goodLine (r .line)) two in
-    let g₁ : one ≡ true = both-right (goodHeading (r .heading)) one g in
-    let g₂ : two ≡ true = both-right (goodLine (r .line)) two g₁ in
-    let numbers : Bool = both (goodPeriod (r .line .valid)) (goodLetters 4 (r .line .office)) in
-    let sequence : goodSequence (r .line .sequence) ≡ true =
-    both-left (goodSequence (r .line .sequence)) numbers
-    (both-right (goodLetters 4 (r .line .unit)) (both (goodSequence (r .line .sequence)) numbers) (both-left (goodLine (r .line)) two g₁)) in
+    let parts = good-parts r g in
     omega (
       arith,
       text-length r,
       heading-size (r .heading),
-      first-size (r .line) sequence,
+      first-size (r .line) (line-parts (r .line) (parts .line) .sequence),
       size-append (areaWords (r .area)) (formWords r (r .form)),
-      area-size (r .area) (both-left (goodArea (r .area)) form g₂),
-      form-size (r .heading .designator .kind) r (r .form) (both-right (goodArea (r .area)) form g₂),
+      area-size (r .area) (parts .area),
+      form-size (r .heading .designator .kind) r (r .form) (parts .form),
     )
 
 pub never-24 : (r : Record) (buffer : List ℕ) → writeOf r buffer .number ≡ 24 → ⊥

@@ -1,7 +1,7 @@
 -- The words of a walk with the parts that they belong to, and that a walk which ends was told the words of its record.
 -- Assumes nothing.
 use mathlib.Core.Bool.{true}
-use mathlib.Core.List.{List, [], _∷_, _++_, map}
+use mathlib.Core.List.{List, [], _∷_, _++_, map, append-nil, map-append}
 use mathlib.Core.Path.{_≡_, refl, ap, sym, _∙_}
 use Prim.Native.Nat.{ℕ}
 use Rattle.figures.specs.Letters.{inLetters}
@@ -25,17 +25,13 @@ use Rattle.grammar.specs.Steps.{step}
 use Rattle.grammar.proofs.Invariant.{Ok, mark}
 use Rattle.grammar.proofs.Moves.{Fine}
 use Rattle.grammar.proofs.Moves.Fine.{leads, ends, dies}
-use Rattle.grammar.proofs.Told.{revOnto, rev-last, map-append, told, toldRecord}
+use Rattle.grammar.proofs.Told.{revOnto, rev-last, told, toldRecord}
 
 -- Lists turned around.
 
 rev-rev : {A : Type 0} (xs back front : List A) → revOnto (revOnto xs back) front ≡ revOnto back (xs ++ front)
 rev-rev [] back front = refl
 rev-rev (x ∷ xs) back front = rev-rev xs (x ∷ back) front
-
-append-nil : {A : Type 0} (xs : List A) → xs ++ [] ≡ xs
-append-nil [] = refl
-append-nil (x ∷ xs) = ap (λ (r : List _). x ∷ r) (append-nil xs)
 
 pub rev-same : {A : Type 0} (xs ys : List A) → revOnto xs [] ≡ revOnto ys [] → xs ≡ ys
 rev-same xs ys e = sym (append-nil xs) ∙ (sym (rev-rev xs [] []) ∙ (ap (λ (r : List _). revOnto r []) e ∙ (rev-rev ys [] [] ∙ append-nil ys)))

@@ -4,26 +4,25 @@
 use mathlib.Core.Bool.{Bool, true, false, not}
 use mathlib.Core.List.{List, [], _∷_, _++_, append-assoc}
 use mathlib.Core.Path.{_≡_, refl, ap, sym, _∙_}
-use Prim.Native.Nat.{ℕ, zero, suc, _-_, _≤_, _<_}
+use Prim.Native.Nat.{ℕ, _-_, _≤_, _<_}
 use native.Mathlib.Nat.{not-suc-le-zero, le-trans, le-refl}
 use native.Mathlib.Omega.{arith}
-use lib.Dec.{leb, eqb}
-use lib.ListN.{length, take, drop, replicate, length-append, length-drop, length-replicate, take-append-drop}
+use lib.Dec.{leb}
+use lib.ListN.{length, take, replicate, length-append, length-replicate, take-append-drop}
 use lib.Seq.{length-take-le, take-at, drop-at}
-use borrow.Author.Tests.{leb-true, le-leb, eqb-true, eq-eqb, ne-eqb, not-true}
-use Rattle.lists.specs.Choice.{both}
+use borrow.Author.Tests.{leb-true, le-leb, eq-eqb, ne-eqb, not-true}
 use Rattle.lists.specs.Lists.{allOf, indexOf, same}
 use Rattle.lists.specs.Text.{bytes}
 use Rattle.lists.proofs.Choice.{by, clash, both-left, both-right, both-true, both-false-left}
-use Rattle.words.specs.Bytes.{between}
 use Rattle.words.specs.Words.{plainWord, line}
-use Rattle.words.proofs.Ranges.{between-low, between-high}
 use Rattle.figures.specs.Keywords.{wordIn, inTable}
 use Rattle.names.specs.Names.{closingWords, closingOf, goodClosing, nameWord, closers, inName, pieces, nameText}
 use Rattle.names.proofs.NameLaws.{pieces-some, pieces-one, pieces-grow, line-pieces, name-some, name-one, name-grow, in-name-spaceless, pieces-plain}
 use Rattle.message.specs.Limits.{nameBytes}
 use Rattle.message.specs.Names.{zeroByte, unusedZero, goodName, emptyName, nameWords}
 use Rattle.message.specs.declared.Name.{Name}
+use Rattle.message.proofs.Empties.{all-replicate, unused-told}
+use Rattle.message.proofs.Goodness.{GoodName, name-parts}
 use Rattle.grammar.specs.Records.{nameOf}
 use Rattle.grammar.specs.Runs.{walk}
 use Rattle.grammar.specs.States.{State}
@@ -74,16 +73,11 @@ open-mountain w e =
 pub name-words-of : (t : List ℕ) → nameWords (nameOf t) ≡ pieces t
 name-words-of t = ap pieces (take-at t (replicate (nameBytes - length t) 0) (length t) refl)
 
-zeros : (n : ℕ) → allOf zeroByte (replicate n 0) ≡ true
-unfolding allOf
-zeros zero = refl
-zeros (suc n) = zeros n
-
 unused-zero : (t : List ℕ) → length t ≤ nameBytes → unusedZero (nameOf t) ≡ true
 unused-zero t h =
     let rest : List ℕ = replicate (nameBytes - length t) 0 in
-    let long : length (t ++ rest) ≡ 50 = length-append t rest ∙ rw length-replicate (omega arith) in
-    both-true (eq-eqb (length (t ++ rest)) 50 long) (rw (drop-at t rest (length t) refl) (zeros (50 - length t)))
+    let long : length (t ++ rest) ≡ nameBytes = length-append t rest ∙ rw length-replicate (omega arith) in
+    both-true (eq-eqb (length (t ++ rest)) nameBytes long) (rw (drop-at t rest (length t) refl) (all-replicate zeroByte (nameBytes - length t) 0 refl))
 
 pub name-of-good : (m : Bool) (limit : ℕ) (t : List ℕ) → NameOk m limit t → limit ≤ nameBytes → goodName m limit (nameOf t) ≡ true
 unfolding goodName
@@ -100,67 +94,35 @@ name-of-some m limit t ok =
 
 -- The text of a record.
 
-all-zero : (xs : List ℕ) → allOf zeroByte xs ≡ true → xs ≡ replicate (length xs) 0
-unfolding allOf
-all-zero [] t = refl
-all-zero (x ∷ xs) t =
-    let p : x ≡ 0 = eqb-true x 0 (both-left (zeroByte x) (allOf zeroByte xs) t) in
-    let q : xs ≡ replicate (length xs) 0 = all-zero xs (both-right (zeroByte x) (allOf zeroByte xs) t) in
-    λ i. p i ∷ q i
-
 -- a name whose bytes past its count are zero is the record of its text
 module _ (n : Name) (u : unusedZero n ≡ true) where
-  unused-long : length (n .bytes) ≡ 50
-  unused-long = eqb-true (length (n .bytes)) nameBytes (both-left (eqb (length (n .bytes)) nameBytes) (allOf zeroByte (drop (n .count) (n .bytes))) u)
+  unused-count : n .count ≤ nameBytes → length (take (n .count) (n .bytes)) ≡ n .count
+  unused-count h = length-take-le (n .count) (n .bytes) (rw (unused-told n u .long) h)
 
-  unused-rest : drop (n .count) (n .bytes) ≡ replicate (50 - n .count) 0
-  unused-rest =
-      all-zero (drop (n .count) (n .bytes)) (both-right (eqb (length (n .bytes)) nameBytes) (allOf zeroByte (drop (n .count) (n .bytes))) u)
-      ∙ rw (length-drop (n .count) (n .bytes), unused-long)
-
-  unused-count : n .count ≤ 50 → length (take (n .count) (n .bytes)) ≡ n .count
-  unused-count h = length-take-le (n .count) (n .bytes) (rw unused-long h)
-
-  pub unused-is : n .count ≤ 50 → n ≡ nameOf (take (n .count) (n .bytes))
+  unused-is : n .count ≤ nameBytes → n ≡ nameOf (take (n .count) (n .bytes))
   unused-is h = λ i. record { bytes = text i; count = sym (unused-count h) i }
     where
-      text : n .bytes ≡ take (n .count) (n .bytes) ++ replicate (50 - length (take (n .count) (n .bytes))) 0
-      text = sym (take-append-drop (n .count) (n .bytes)) ∙ rw (unused-rest, unused-count h)
+      text : n .bytes ≡ take (n .count) (n .bytes) ++ replicate (nameBytes - length (take (n .count) (n .bytes))) 0
+      text = sym (take-append-drop (n .count) (n .bytes)) ∙ rw (unused-told n u .rest, unused-count h)
 
 module _ (m : Bool) (limit : ℕ) (h : limit ≤ nameBytes) (n : Name) (g : goodName m limit n ≡ true) where
-  good-count : between 1 limit (n .count) ≡ true
-  unfolding goodName
-  good-count = both-left (between 1 limit (n .count)) (both (unusedZero n) (nameText m (take (n .count) (n .bytes)))) g
-
-  good-rest : both (unusedZero n) (nameText m (take (n .count) (n .bytes))) ≡ true
-  unfolding goodName
-  good-rest = both-right (between 1 limit (n .count)) (both (unusedZero n) (nameText m (take (n .count) (n .bytes)))) g
-
-  good-unused : unusedZero n ≡ true
-  good-unused = both-left (unusedZero n) (nameText m (take (n .count) (n .bytes))) good-rest
-
-  good-fits : n .count ≤ limit
-  good-fits = between-high 1 limit (n .count) good-count
+  parts : GoodName m limit n
+  parts = name-parts m limit n g
 
   -- a good name is the record of its own text
   pub good-name-is : n ≡ nameOf (take (n .count) (n .bytes))
-  good-name-is = unused-is n good-unused (le-trans good-fits h)
+  good-name-is = unused-is n (parts .unused) (le-trans (parts .fits) h)
 
   pub good-name-ok : NameOk m limit (take (n .count) (n .bytes))
-  good-name-ok = record {
-    text = both-right (unusedZero n) (nameText m (take (n .count) (n .bytes))) good-rest;
-    fits = rw (unused-count n good-unused (le-trans good-fits h)) good-fits;
-  }
+  good-name-ok = record { text = parts .text; fits = rw (unused-count n (parts .unused) (le-trans (parts .fits) h)) (parts .fits) }
 
   -- and it is not the empty one
   pub good-name-some : emptyName n ≡ false
   unfolding emptyName
-  good-name-some =
-      let low : 1 ≤ n .count = between-low 1 limit (n .count) good-count in
-      both-false-left (unusedZero n) (ne-eqb (n .count) 0 (λ e. omega arith))
+  good-name-some = both-false-left (unusedZero n) (ne-eqb (n .count) 0 (λ e. omega (arith, parts .some)))
 
   pub good-name-plain : allOf plainWord (nameWords n) ≡ true
-  good-name-plain = pieces-plain m (take (n .count) (n .bytes)) (good-name-ok .text)
+  good-name-plain = pieces-plain m (take (n .count) (n .bytes)) (parts .text)
 
 -- The words of a name, from a text on.
 

@@ -30,7 +30,7 @@ use Rattle.motions.specs.Speeds.{unitWords, speedOf, goodSpeed}
 use Rattle.grammar.specs.Numbers.{numberOf}
 use Rattle.grammar.specs.Placing.{is, locating, placeStep}
 use Rattle.grammar.specs.Records.{areaOf}
-use Rattle.grammar.specs.States.{Site, Placing, State, Move}
+use Rattle.grammar.specs.States.{State, Move}
 use Rattle.grammar.specs.States.Move.{goes, done, dead}
 use Rattle.grammar.specs.States.Site.{inReport, inForecast}
 use Rattle.grammar.specs.States.Placing.{atLocation, atLatitudeOf, atLatitudeBound, atAnd, atSecondBound, atLongitudeOf, atLongitudeBound, atEntire, atLatitude, atLongitude, atDash}

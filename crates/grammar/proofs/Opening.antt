@@ -8,10 +8,9 @@ use Prim.Native.Nat.{ℕ}
 use lib.Dec.{eqb, lit<}
 use borrow.Author.Tests.{eqb-true}
 use Rattle.lists.specs.Base.{worthAfter, places}
-use Rattle.lists.specs.Choice.{both, either}
 use Rattle.lists.specs.Lists.{indexOf, allOf, same}
 use Rattle.lists.specs.Text.{bytes}
-use Rattle.lists.proofs.Choice.{by, clash, both-left, both-right, both-true, either-right}
+use Rattle.lists.proofs.Choice.{by, clash, both-true, either-right}
 use Rattle.lists.proofs.Lists.{same-is}
 use Rattle.words.specs.Bytes.{allowed}
 use Rattle.words.specs.Words.{plainWord}
@@ -31,17 +30,21 @@ use Rattle.headings.specs.declared.Designator.{Designator}
 use Rattle.headings.specs.declared.Sequence.{Sequence}
 use Rattle.headings.proofs.HeadingLaws.{designator-reads, designator-plain, correction-reads, correction-plain, office-reads, office-plain}
 use Rattle.headings.proofs.SequenceLaws.{sequence-reads, sequence-plain}
-use Rattle.message.specs.Records.{goodHeading, goodLine}
+use Rattle.message.specs.Records.{goodHeading, goodLine, goodForm, good}
 use Rattle.message.specs.Words.{correctionWords, headingWords, lineWords}
 use Rattle.message.specs.declared.FirstLine.{FirstLine}
+use Rattle.message.specs.declared.Form.{Form}
 use Rattle.message.specs.declared.Heading.{Heading}
+use Rattle.message.specs.declared.Report.{Report}
+use Rattle.message.proofs.Goodness.{heading-parts, heading-good, line-parts, line-good}
 use Rattle.grammar.specs.Placing.{is}
+use Rattle.grammar.specs.Records.{formed}
 use Rattle.grammar.specs.Runs.{walk}
-use Rattle.grammar.specs.States.{State}
+use Rattle.grammar.specs.States.{ToArea, State}
 use Rattle.grammar.specs.States.Move.{goes}
 use Rattle.grammar.specs.States.State.{atDesignator, atCentre, atSent, atCorrection, atUnit, atSigmet, atSequence, atValid, atPeriod, atOffice, atIndicator}
-use Rattle.grammar.specs.Steps.{goesIf, step}
-use Rattle.grammar.proofs.Invariant.{Ok}
+use Rattle.grammar.specs.Steps.{goesIf, kindOf, step}
+use Rattle.grammar.proofs.Invariant.{OpeningOk, Ok}
 use Rattle.grammar.proofs.Moves.{Fine, chosen, goes-if, fine-as, Next, next-by, walk-step}
 use Rattle.grammar.proofs.Moves.Fine.{leads}
 use Rattle.grammar.proofs.Told.{told}
@@ -50,40 +53,14 @@ pub four-reads : Reads (lettersOf 4) (inLetters 4) (goodLetters 4) 0
 four-reads = letters-reads 4 (lit< tt) (lit< tt)
 
 -- a correction is no 0, which stands for none
-some-correction : (c : ℕ) → goodCorrection c ≡ true → eqb c 0 ≡ false
+pub some-correction : (c : ℕ) → goodCorrection c ≡ true → eqb c 0 ≡ false
 unfolding goodCorrection
 some-correction c g = by (eqb c 0) (λ e. clash false (rw (eqb-true c 0 e) at g) refl) (λ e. e)
 
--- four tests that all hold
-four : (a b c d : Bool) → both a (both b (both c d)) ≡ true → (a ≡ true) × (b ≡ true) × (c ≡ true) × (d ≡ true)
-four a b c d e =
-    let e′ : both b (both c d) ≡ true = both-right a (both b (both c d)) e in
-    let e″ : both c d ≡ true = both-right b (both c d) e′ in
-    (both-left a (both b (both c d)) e, both-left b (both c d) e′, both-left c d e″, both-right c d e″)
-
-pub record GoodHeading (h : Heading) : Type 0 where
-  pub designator : goodDesignator (h .designator) ≡ true
-  pub centre : goodLetters 4 (h .centre) ≡ true
-  pub sent : goodGroup (h .sent) ≡ true
-  pub correction : either (eqb (h .correction) 0) (goodCorrection (h .correction)) ≡ true
-
-pub heading-parts : (h : Heading) → goodHeading h ≡ true → GoodHeading h
-unfolding goodHeading
-heading-parts h g =
-    let t = four (goodDesignator (h .designator)) (goodLetters 4 (h .centre)) (goodGroup (h .sent)) (either (eqb (h .correction) 0) (goodCorrection (h .correction))) g in
-    record { designator = t .0; centre = t .1; sent = t .2; correction = t .3 }
-
-pub record GoodLine (l : FirstLine) : Type 0 where
-  pub unit : goodLetters 4 (l .unit) ≡ true
-  pub sequence : goodSequence (l .sequence) ≡ true
-  pub valid : goodPeriod (l .valid) ≡ true
-  pub office : goodLetters 4 (l .office) ≡ true
-
-pub line-parts : (l : FirstLine) → goodLine l ≡ true → GoodLine l
-unfolding goodLine
-line-parts l g =
-    let t = four (goodLetters 4 (l .unit)) (goodSequence (l .sequence)) (goodPeriod (l .valid)) (goodLetters 4 (l .office)) g in
-    record { unit = t .0; sequence = t .1; valid = t .2; office = t .3 }
+-- a message is good where what was read up to its area and its form are
+pub good-formed : (o : ToArea) (f : Form) (report : Report) → OpeningOk o → goodForm (kindOf o) (o .line) report f ≡ true → good (formed o f report) ≡ true
+unfolding good
+good-formed o f report ok g = both-true (ok .heading) (both-true (ok .line) (both-true (ok .area) g))
 
 -- Sound.
 
@@ -96,22 +73,22 @@ unfolding step told
 centre-sound d w ok = goes-if (goodLetters 4 (lettersOf 4 w)) (λ g. record { ok = (ok, g); tells = rw (reads-spelled four-reads w g) })
 
 pub sent-sound : (d : Designator) (c : ℕ) (w : List ℕ) → Ok (atSent d c) → Fine (atSent d c) w (step (atSent d c) w)
-unfolding step told goodHeading
+unfolding step told
 sent-sound d c w ok =
     goes-if (goodGroup (groupOf w))
-    (λ g. record { ok = both-true (ok .0) (both-true (ok .1) (both-true g refl)); tells = rw (reads-spelled group-reads w g) })
+    (λ g. record { ok = heading-good _ (record { designator = ok .0; centre = ok .1; sent = g; correction = refl }); tells = rw (reads-spelled group-reads w g) })
 
 pub unit-sound : (h : Heading) (w : List ℕ) → Ok (atUnit h) → Fine (atUnit h) w (step (atUnit h) w)
 unfolding step told
 unit-sound h w ok = goes-if (goodLetters 4 (lettersOf 4 w)) (λ g. record { ok = (ok, g); tells = rw (reads-spelled four-reads w g) })
 
 pub correction-sound : (d : Designator) (c : ℕ) (g : Group) (w : List ℕ) → Ok (atCorrection d c g) → Fine (atCorrection d c g) w (step (atCorrection d c g) w)
-unfolding step told goodHeading
+unfolding step told
 correction-sound d c g w ok =
     let parts = heading-parts (record { designator = d; centre = c; sent = g; correction = 0 }) ok in
     chosen (goodCorrection (correctionOf w))
     (λ e. leads (record {
-      ok = both-true (parts .designator) (both-true (parts .centre) (both-true (parts .sent) (either-right (eqb (correctionOf w) 0) e)));
+      ok = heading-good _ (record { designator = parts .designator; centre = parts .centre; sent = parts .sent; correction = either-right (eqb (correctionOf w) 0) e });
       tells = rw (some-correction (correctionOf w) e, reads-spelled correction-reads w e);
     }))
     (λ e. fine-as (atCorrection d c g) (atUnit (record { designator = d; centre = c; sent = g; correction = 0 })) refl refl (unit-sound (record { designator = d; centre = c; sent = g; correction = 0 }) w ok))
@@ -135,19 +112,19 @@ period-sound h u s w ok =
     goes-if (goodPeriod (periodOf w)) (λ g. record { ok = (ok .0, ok .1, ok .2, g); tells = rw (reads-spelled period-reads w g) })
 
 pub office-sound : (h : Heading) (u : ℕ) (s : Sequence) (p : Period) (w : List ℕ) → Ok (atOffice h u s p) → Fine (atOffice h u s p) w (step (atOffice h u s p) w)
-unfolding step told goodLine lineWords
+unfolding step told lineWords
 office-sound h u s p w ok =
     goes-if (goodLetters 4 (officeOf w))
-    (λ g. record { ok = (ok .0, both-true (ok .1) (both-true (ok .2) (both-true (ok .3) g))); tells = rw (reads-spelled office-reads w g) })
+    (λ g. record { ok = (ok .0, line-good _ (record { unit = ok .1; sequence = ok .2; valid = ok .3; office = g })); tells = rw (reads-spelled office-reads w g) })
 
 -- Live.
 
 module _ (indicator : (h : Heading) (l : FirstLine) → Ok (atIndicator h l) → Next (atIndicator h l)) where
   pub office-next : (h : Heading) (u : ℕ) (s : Sequence) (p : Period) → Ok (atOffice h u s p) → Next (atOffice h u s p)
-  unfolding step officeOf lettersOf goodLetters goodLine worthAfter places allOf
+  unfolding step officeOf lettersOf goodLetters worthAfter places allOf
   office-next h u s p ok =
       let l : FirstLine = record { unit = u; sequence = s; valid = p; office = officeOf (bytes "QAAA-") } in
-      next-by (atOffice h u s p) (bytes "QAAA-") (atIndicator h l) refl refl (indicator h l (ok .0, both-true (ok .1) (both-true (ok .2) (both-true (ok .3) refl))))
+      next-by (atOffice h u s p) (bytes "QAAA-") (atIndicator h l) refl refl (indicator h l (ok .0, line-good l (record { unit = ok .1; sequence = ok .2; valid = ok .3; office = refl })))
 
   pub period-next : (h : Heading) (u : ℕ) (s : Sequence) → Ok (atPeriod h u s) → Next (atPeriod h u s)
   unfolding step periodOf goodPeriod groupOf goodGroup figuresOf worthAfter allOf
@@ -183,10 +160,10 @@ module _ (indicator : (h : Heading) (l : FirstLine) → Ok (atIndicator h l) →
       next-by (atCorrection d c g) w (atSigmet h (lettersOf 4 w)) refl refl (sigmet-next h (lettersOf 4 w) (ok, refl))
 
   pub sent-next : (d : Designator) (c : ℕ) → Ok (atSent d c) → Next (atSent d c)
-  unfolding step groupOf goodGroup figuresOf worthAfter allOf goodHeading
+  unfolding step groupOf goodGroup figuresOf worthAfter allOf
   sent-next d c ok =
       let w : List ℕ = bytes "180830" in
-      next-by (atSent d c) w (atCorrection d c (groupOf w)) refl refl (correction-next d c (groupOf w) (both-true (ok .0) (both-true (ok .1) refl)))
+      next-by (atSent d c) w (atCorrection d c (groupOf w)) refl refl (correction-next d c (groupOf w) (heading-good _ (record { designator = ok .0; centre = ok .1; sent = refl; correction = refl })))
 
   pub centre-next : (d : Designator) → Ok (atCentre d) → Next (atCentre d)
   unfolding step lettersOf goodLetters worthAfter places allOf
@@ -208,9 +185,9 @@ pub reads-on : {A : Type 0} {read : List ℕ → A} {spell : A → List ℕ} {go
 reads-on laws next v g = rw (laws .forth v g, g)
 
 -- four letters are no correction, which has three bytes
-no-correction : (u : ℕ) → correctionOf (inLetters 4 u) ≡ 0
+pub no-correction : (u : ℕ) → goodCorrection (correctionOf (inLetters 4 u)) ≡ false
 unfolding correctionOf
-no-correction u = rw (length-inLetters 4 u)
+no-correction u = rw (length-inLetters 4 u) (correction-reads .refuses)
 
 forth-three : (h : Heading) (ws : List (List ℕ)) → goodHeading h ≡ true
     → walk (goes atDesignator) (headingWords h ++ ws) ≡ walk (goes (atCorrection (h .designator) (h .centre) (h .sent))) (correctionWords (h .correction) ++ ws)
@@ -257,7 +234,7 @@ unfolding lineWords unitless step
 plainly d c s l ws g =
     let h : Heading = record { designator = d; centre = c; sent = s; correction = 0 } in
     walk-step (atCorrection d c s) (atSigmet h (l .unit)) (inLetters 4 (l .unit)) (unitless l ++ ws)
-    (rw (no-correction (l .unit), correction-reads .refuses) (reads-on four-reads (atSigmet h) (l .unit) (line-parts l g .unit)))
+    (rw (no-correction (l .unit)) (reads-on four-reads (atSigmet h) (l .unit) (line-parts l g .unit)))
     ∙ forth-unitless h l ws g
 
 forth-correction : (h : Heading) (l : FirstLine) (ws : List (List ℕ)) → goodHeading h ≡ true → goodLine l ≡ true

@@ -16,20 +16,19 @@ use Rattle.lists.specs.Lists.{indexOf, allOf, same}
 use Rattle.lists.specs.Text.{bytes}
 use Rattle.lists.proofs.Choice.{by, both-left, both-right, both-true, both-false-left, both-false-right, either-left, either-right, either-false}
 use Rattle.lists.proofs.Lists.{all-append, index-clear, index-found}
-use Rattle.words.specs.Bytes.{between}
-use Rattle.words.proofs.Ranges.{between-low, between-high}
 use Rattle.coordinates.specs.Coordinates.{northSouth, eastWest, goodCoordinate, spellCoordinate, signedOf}
-use Rattle.coordinates.specs.Points.{apart, samePoint, goodPoint, emptyPoint, noPoint, pointWords}
+use Rattle.coordinates.specs.Points.{apart, samePoint, goodPoint, noPoint, pointWords}
 use Rattle.coordinates.specs.declared.Coordinate.{Coordinate}
 use Rattle.coordinates.specs.declared.Point.{Point}
 use Rattle.coordinates.proofs.Axes.{latitude-reads, longitude-reads}
 use Rattle.coordinates.proofs.Globe.{apart-self, apart-none}
-use Rattle.coordinates.proofs.Goodness.{empty-point-is}
 use Rattle.coordinates.proofs.Range.{signed-range}
 use Rattle.message.specs.Limits.{leastPoints, mostPoints}
-use Rattle.message.specs.Locations.{closingPoint, goodOutline, joined}
+use Rattle.message.specs.Locations.{joined}
 use Rattle.message.specs.declared.Extent.{Extent}
 use Rattle.message.specs.declared.Location.the-variants.{Outline}
+use Rattle.message.proofs.Empties.{empty-points}
+use Rattle.message.proofs.Goodness.{GoodPoint, point-parts, GoodOutline}
 use Rattle.grammar.specs.Placing.{closes, sameLatitude, roomAfter, pointed, placeStep}
 use Rattle.grammar.specs.Placing.Placed.{on, there}
 use Rattle.grammar.specs.Records.{outlined}
@@ -70,11 +69,9 @@ module _ (closing : ℕ) (ps : List Point) where
     unfolding placeStep pointed
     longitude-there n l = rw (longitude-reads .forth c g, g, n, le-leb leastPoints (length ps + 1) l)
 
-pub first-good : (first : Point) (ps : List Point) → allOf goodPoint (first ∷ ps) ≡ true → (goodCoordinate northSouth (first .latitude) ≡ true) × (goodCoordinate eastWest (first .longitude) ≡ true)
-unfolding allOf goodPoint
-first-good first ps g =
-    let p : goodPoint first ≡ true = both-left (goodPoint first) (allOf goodPoint ps) g in
-    (both-left _ _ p, both-right (goodCoordinate northSouth (first .latitude)) (goodCoordinate eastWest (first .longitude)) p)
+pub first-good : (first : Point) (ps : List Point) → allOf goodPoint (first ∷ ps) ≡ true → GoodPoint first
+unfolding allOf
+first-good first ps g = point-parts first (both-left _ _ g)
 
 -- Which points close an outline, and which do not.
 
@@ -145,7 +142,7 @@ elsewhere (first ∷ ps) latitude g =
     here = +ℤ-idr z
 
     small : natAbs z ≤ 10800
-    small = signed-range eastWest (first .longitude) (first-good first ps g .1)
+    small = signed-range eastWest (first .longitude) (first-good first ps g .longitude)
 
 -- a point in the middle of an open outline does not close it
 pub middle-open : (ps : List Point) (x : Point) (mid : List Point) → unclosed (ps ++ (x ∷ mid)) ≡ true → closes ps x ≡ false
@@ -155,8 +152,7 @@ middle-open (first ∷ ps) x mid u =
     let f : Point → Bool = λ (q : Point). not (samePoint first q) in
     not-true (samePoint first x) (both-left (f x) (allOf f mid) (both-right (allOf f ps) (allOf f (x ∷ mid)) (sym (all-append f ps (x ∷ mid)) ∙ u)))
 
-pub middle-good : (ps : List Point) (x : Point) (mid : List Point) → allOf goodPoint (ps ++ (x ∷ mid)) ≡ true
-    → (goodCoordinate northSouth (x .latitude) ≡ true) × (goodCoordinate eastWest (x .longitude) ≡ true)
+pub middle-good : (ps : List Point) (x : Point) (mid : List Point) → allOf goodPoint (ps ++ (x ∷ mid)) ≡ true → GoodPoint x
 middle-good ps x mid g = first-good x mid (both-right (allOf goodPoint ps) (allOf goodPoint (x ∷ mid)) (sym (all-append goodPoint ps (x ∷ mid)) ∙ g))
 
 -- The words of an outline lead through it.
@@ -173,24 +169,23 @@ module _ (site : Site) (p : Placing) (w : List ℕ) (ws : List (List ℕ)) where
 module _ (site : Site) (qs : List Point) (p : Point) (ws : List (List ℕ)) (good : allOf goodPoint qs ≡ true) (end : goodPoint p ≡ true)
     (room : length qs < mostPoints) (least : leastPoints ≤ length qs + 1) (isOpen : unclosed qs ≡ true) (shut : closes qs p ≡ true) where
   last-point : walk (goes (atPlace site (atLatitude qs))) (pointWords p ++ ws) ≡ walk (goes (after site (outlined (qs ++ (p ∷ []))))) ws
-  unfolding goodPoint
   last-point =
       walk-on site (atLatitude qs) (spellCoordinate northSouth (p .latitude)) (spellCoordinate eastWest (p .longitude) ∷ ws) (atLongitude qs (p .latitude))
-      (latitude-on (closingAt site) qs (p .latitude) (both-left _ _ end) (either-right (roomAfter qs) (closes-latitude qs p shut)))
+      (latitude-on (closingAt site) qs (p .latitude) (point-parts p end .latitude) (either-right (roomAfter qs) (closes-latitude qs p shut)))
       ∙ walk-there site (atLongitude qs (p .latitude)) (spellCoordinate eastWest (p .longitude)) ws (outlined (qs ++ (p ∷ [])))
-      (longitude-there (closingAt site) qs (p .latitude) (p .longitude) (both-right (goodCoordinate northSouth (p .latitude)) _ end) shut least)
+      (longitude-there (closingAt site) qs (p .latitude) (p .longitude) (point-parts p end .longitude) shut least)
 
   points-on : (ps mid : List Point) → ps ++ mid ≡ qs
       → walk (goes (atPlace site (atLatitude ps))) (trailed mid ++ pointWords p ++ ws) ≡ walk (goes (after site (outlined (qs ++ (p ∷ []))))) ws
   points-on ps [] e = let i : ps ≡ qs = sym (append-nil ps) ∙ e in rw i last-point
   points-on ps (x ∷ mid) e =
-      let g : (goodCoordinate northSouth (x .latitude) ≡ true) × (goodCoordinate eastWest (x .longitude) ≡ true) = middle-good ps x mid (rw e good) in
+      let g : GoodPoint x = middle-good ps x mid (rw e good) in
       let r : roomAfter ps ≡ true = lt-ltb (length ps + 1) mostPoints (omega (arith, length-append ps (x ∷ mid), ap length e)) in
       let vs : List (List ℕ) = trailed mid ++ pointWords p ++ ws in
       walk-on site (atLatitude ps) (spellCoordinate northSouth (x .latitude)) (spellCoordinate eastWest (x .longitude) ∷ bytes "-" ∷ vs) (atLongitude ps (x .latitude))
-      (latitude-on (closingAt site) ps (x .latitude) (g .0) (either-left _ r))
+      (latitude-on (closingAt site) ps (x .latitude) (g .latitude) (either-left _ r))
       ∙ (walk-on site (atLongitude ps (x .latitude)) (spellCoordinate eastWest (x .longitude)) (bytes "-" ∷ vs) (atDash (ps ++ (x ∷ [])))
-      (longitude-on (closingAt site) ps (x .latitude) (x .longitude) (g .1) (middle-open ps x mid (rw e isOpen)) r)
+      (longitude-on (closingAt site) ps (x .latitude) (x .longitude) (g .longitude) (middle-open ps x mid (rw e isOpen)) r)
       ∙ (walk-on site (atDash (ps ++ (x ∷ []))) (bytes "-") vs (atLatitude (ps ++ (x ∷ []))) (dash-on (closingAt site) (ps ++ (x ∷ [])))
       ∙ points-on (ps ++ (x ∷ [])) mid (append-assoc ps (x ∷ []) mid ∙ e)))
 
@@ -199,14 +194,6 @@ module _ (site : Site) (qs : List Point) (p : Point) (ws : List (List ℕ)) (goo
   outline-on = rw (joined-last qs p) (points-on [] qs refl)
 
 -- What a good outline is: points that do not close it, and one that does.
-
-pub empty-points : (ps : List Point) → allOf emptyPoint ps ≡ true → ps ≡ replicate (length ps) noPoint
-unfolding allOf
-empty-points [] t = refl
-empty-points (p ∷ ps) t =
-    let i : p ≡ noPoint = empty-point-is p (both-left _ _ t) in
-    let j : ps ≡ replicate (length ps) noPoint = empty-points ps (both-right (emptyPoint p) (allOf emptyPoint ps) t) in
-    λ k. i k ∷ j k
 
 pub record Outlined (n : ℕ) (ps : List Point) : Type 0 where
   pub before : List Point
@@ -221,9 +208,8 @@ pub record Outlined (n : ℕ) (ps : List Point) : Type 0 where
   pub whole : record { location = Outline n; points = ps } ≡ outlined (before ++ (last ∷ []))
 
 -- the points read, and the empty places after them
-outlined-is : (n : ℕ) (ps qs : List Point) → n ≤ mostPoints → length ps ≡ mostPoints → allOf emptyPoint (drop n ps) ≡ true → take n ps ≡ qs
-    → record { location = Outline n; points = ps } ≡ outlined qs
-outlined-is n ps qs high long none e = λ i. record { location = Outline (count i); points = all i }
+outlined-is : (n : ℕ) (ps qs : List Point) → GoodOutline n ps → take n ps ≡ qs → record { location = Outline n; points = ps } ≡ outlined qs
+outlined-is n ps qs o e = λ i. record { location = Outline (count i); points = all i }
   where
     count : n ≡ length qs
     count = rw (← e) (sym (length-take-le n ps (omega arith)))
@@ -232,15 +218,14 @@ outlined-is n ps qs high long none e = λ i. record { location = Outline (count 
     rest = omega (arith, length-drop n ps, count)
 
     all : ps ≡ qs ++ replicate (mostPoints - length qs) noPoint
-    all = sym (take-append-drop n ps) ∙ (rw (e, ← rest) (ap (λ (r : List Point). qs ++ r) (empty-points (drop n ps) none)))
+    all = sym (take-append-drop n ps) ∙ (rw (e, ← rest) (ap (λ (r : List Point). qs ++ r) (empty-points (drop n ps) (o .unused))))
 
-outline-parts : (n : ℕ) (ps : List Point) → leastPoints ≤ n → n ≤ mostPoints → length ps ≡ mostPoints → allOf goodPoint (take n ps) ≡ true → closingPoint ps ≡ n - 1
-    → allOf emptyPoint (drop n ps) ≡ true → Outlined n ps
+pub outline-told : (n : ℕ) (ps : List Point) → GoodOutline n ps → Outlined n ps
 unfolding allOf
-outline-parts zero ps low high long g c none = absurd (omega arith)
-outline-parts (suc zero) ps low high long g c none = absurd (omega arith)
-outline-parts (suc (suc m)) [] low high long g c none = absurd (omega arith)
-outline-parts (suc (suc m)) (first ∷ ps) low high long g c none = record {
+outline-told zero ps o = absurd (omega arith)
+outline-told (suc zero) ps o = absurd (omega arith)
+outline-told (suc (suc m)) [] o = absurd (omega arith)
+outline-told (suc (suc m)) (first ∷ ps) o = record {
   before = first ∷ take m ps;
   last = last;
   points = both-left _ _ good;
@@ -250,7 +235,7 @@ outline-parts (suc (suc m)) (first ∷ ps) low high long g c none = record {
   isOpen = rw at-m at (index-clear (samePoint first) ps);
   shut = rw at-m at (index-found (samePoint first) ps noPoint (omega (arith, at-m)));
   taken = taken;
-  whole = outlined-is (suc (suc m)) (first ∷ ps) (first ∷ take m ps ++ (last ∷ [])) high long none taken;
+  whole = outlined-is (suc (suc m)) (first ∷ ps) (first ∷ take m ps ++ (last ∷ [])) o taken;
 }
   where
     last : Point
@@ -266,15 +251,4 @@ outline-parts (suc (suc m)) (first ∷ ps) low high long g c none = record {
     taken = ap (λ (r : List Point). first ∷ r) (take-suc ps m noPoint (omega arith))
 
     good : both (allOf goodPoint (first ∷ take m ps)) (allOf goodPoint (last ∷ [])) ≡ true
-    good = sym (all-append goodPoint (first ∷ take m ps) (last ∷ [])) ∙ (sym (ap (allOf goodPoint) taken) ∙ g)
-
-pub outline-told : (n : ℕ) (ps : List Point) → goodOutline n ps ≡ true → Outlined n ps
-unfolding goodOutline
-outline-told n ps t =
-    let first : between leastPoints mostPoints n ≡ true = both-left _ _ t in
-    let more = both-right (between leastPoints mostPoints n) _ t in
-    let good = both-right (eqb (length ps) mostPoints) _ more in
-    let rest = both-right (allOf goodPoint (take n ps)) _ good in
-    outline-parts n ps (between-low leastPoints mostPoints n first) (between-high leastPoints mostPoints n first)
-    (eqb-true (length ps) mostPoints (both-left _ _ more)) (both-left _ _ good) (eqb-true (closingPoint ps) (n - 1) (both-left _ _ rest))
-    (both-right (eqb (closingPoint ps) (n - 1)) (allOf emptyPoint (drop n ps)) rest)
+    good = sym (all-append goodPoint (first ∷ take m ps) (last ∷ [])) ∙ (sym (ap (allOf goodPoint) taken) ∙ o .points)

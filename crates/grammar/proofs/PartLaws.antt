@@ -2,13 +2,12 @@
 -- Assumes nothing.
 use mathlib.Core.Bool.{Bool, true, false}
 use mathlib.Core.List.{List, [], _∷_, _++_}
-use mathlib.Core.Path.{_≡_, refl, ap, sym, _∙_}
-use Prim.Native.Nat.{ℕ, suc}
+use mathlib.Core.Path.{_≡_, refl, ap, _∙_}
+use Prim.Native.Nat.{ℕ}
 use native.Mathlib.Omega.{arith}
-use Rattle.lists.specs.Choice.{both}
 use Rattle.lists.specs.Lists.{allOf}
 use Rattle.lists.proofs.Choice.{clash, both-left, both-right, both-true}
-use Rattle.lists.proofs.Lists.{all-append, all-map}
+use Rattle.lists.proofs.Lists.{all-append}
 use Rattle.words.specs.Bytes.{between}
 use Rattle.message.specs.Words.{headingWords, lineWords, areaWords}
 use Rattle.levels.specs.Levels.{levelWords}
@@ -18,7 +17,7 @@ use Rattle.message.specs.Words.{correctionWords, formWords, timeOfDay}
 use Rattle.message.specs.declared.Form.{Form}
 use Rattle.message.specs.declared.Form.the-variants.{NoForm, Test, Cancellation, Reported}
 use Rattle.message.specs.declared.Record.{Record}
-use Rattle.grammar.specs.Parts.{Marked, marked, inPart, reportParts, formParts, partsOf, messageParts}
+use Rattle.grammar.specs.Parts.{Marked, marked, inPart, formParts, partsOf, messageParts}
 
 -- the part of a word that is not the `=`
 abbrev pub ofWord : Marked → Bool

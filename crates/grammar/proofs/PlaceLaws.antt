@@ -3,7 +3,7 @@
 use mathlib.Core.Bool.{Bool, true, false, not}
 use mathlib.Core.List.{List, [], _∷_, _++_, append-assoc}
 use mathlib.Core.Path.{_≡_, refl, ap, sym, _∙_}
-use Prim.Native.Nat.{ℕ, zero, suc, _+_, _-_, _≤_, _<_}
+use Prim.Native.Nat.{ℕ, _+_, _-_, _≤_, _<_}
 use native.Mathlib.Omega.{arith}
 use lib.Dec.{eqb, leb, lit<}
 use lib.ListN.{length, take, drop, getD, replicate, length-append, length-replicate}
@@ -15,16 +15,18 @@ use Rattle.lists.specs.Text.{bytes}
 use Rattle.lists.proofs.Choice.{by, clash, both-left, both-right, both-true, either-left, either-right, either-cases}
 use Rattle.lists.proofs.Lists.{same-is, all-append, index-past}
 use Rattle.figures.proofs.Kept.{reads-spelled}
-use Rattle.coordinates.specs.Coordinates.{Axis, northSouth, eastWest, coordinateOf, goodCoordinate, emptyCoordinate, spellCoordinate}
+use Rattle.coordinates.specs.Coordinates.{Axis, northSouth, eastWest, coordinateOf, goodCoordinate, spellCoordinate}
 use Rattle.coordinates.specs.Points.{samePoint, goodPoint, emptyPoint, noPoint, pointWords}
 use Rattle.coordinates.specs.declared.Coordinate.{Coordinate}
 use Rattle.coordinates.specs.declared.Point.{Point}
 use Rattle.coordinates.proofs.Axes.{latitude-reads, longitude-reads}
 use Rattle.coordinates.proofs.Goodness.{good-not-empty, no-point-empty}
 use Rattle.message.specs.Limits.{leastPoints, mostPoints}
-use Rattle.message.specs.Locations.{goodSide, emptySide, noSide, goodBound, noPoints, closingPoint, goodOutline, goodExtent, sideWords, boundWords, dashed, joined, extentWords}
+use Rattle.message.specs.Locations.{goodSide, emptySide, noSide, goodBound, closingPoint, goodOutline, goodExtent, sideWords, boundWords, dashed, joined, extentWords}
 use Rattle.message.specs.declared.Extent.{Extent}
 use Rattle.message.specs.declared.Side.{Side}
+use Rattle.message.proofs.Empties.{all-replicate, no-points-empty, no-side-empty}
+use Rattle.message.proofs.Goodness.{point-good, side-parts}
 use Rattle.grammar.specs.Numbers.{locationPart, followingPart}
 use Rattle.grammar.specs.Placing.{is, Placed, onIf, thereIf, sideWord, entireWord, closes, sameLatitude, roomAfter, pointed, locating, placeStep}
 use Rattle.grammar.specs.Placing.Placed.{on, there, past, nowhere}
@@ -83,15 +85,11 @@ unfolding goodSide
 good-side a s l c = both-true l c
 
 pub good-side-full : (a : Axis) → 0 < a .plus → 0 < a .minus → (s : Side) → goodSide a s ≡ true → emptySide s ≡ false
-unfolding goodSide emptySide
+unfolding emptySide
 good-side-full a p m s g =
     by (eqb (s .of) 0)
-    (λ e. rw (e, good-not-empty a p m (s .at) (both-right (letterOn a (s .of)) (goodCoordinate a (s .at)) g)))
+    (λ e. rw (e, good-not-empty a p m (s .at) (side-parts a s g .at)))
     (λ e. rw e)
-
-pub no-side-empty : emptySide noSide ≡ true
-unfolding emptySide emptyCoordinate
-no-side-empty = refl
 
 pub latitude-full : (s : Side) → goodSide northSouth s ≡ true → emptySide s ≡ false
 latitude-full = good-side-full northSouth (lit< tt) (lit< tt)
@@ -111,17 +109,21 @@ bound-both latitude longitude g =
     by (emptySide latitude) (λ e. rw e) (λ e. rw (e, longitude-full longitude g))
 
 pub bounded-first : (latitude : Side) → goodSide northSouth latitude ≡ true → goodExtent (bounded latitude noSide) ≡ true
-unfolding goodExtent goodBound noPoints allOf emptyPoint emptyCoordinate
-bounded-first latitude g = rw (latitude-full latitude g, g, no-side-empty)
+unfolding goodExtent goodBound
+bounded-first latitude g = rw (latitude-full latitude g, g, no-side-empty) no-points-empty
 
 pub bounded-both : (latitude longitude : Side) → firstGood latitude ≡ true → goodSide eastWest longitude ≡ true → goodExtent (bounded latitude longitude) ≡ true
-unfolding goodExtent goodBound noPoints allOf emptyPoint emptyCoordinate
+unfolding goodExtent goodBound
 bounded-both latitude longitude f g =
-    by (emptySide latitude) (λ e. rw (e, g)) (λ e. let k : goodSide northSouth latitude ≡ true = rw e at f in rw (e, k, longitude-full longitude g, g))
+    by (emptySide latitude) (λ e. rw (e, g) no-points-empty)
+    (λ e. let k : goodSide northSouth latitude ≡ true = rw e at f in rw (e, k, longitude-full longitude g, g) no-points-empty)
 
 pub entirely-good : goodExtent entirely ≡ true
-unfolding goodExtent noPoints allOf emptyPoint emptyCoordinate
-entirely-good = refl
+unfolding goodExtent
+entirely-good = no-points-empty
+
+pub first-none : firstGood noSide ≡ true
+first-none = rw no-side-empty
 
 pub first-side : (latitude : Side) → goodSide northSouth latitude ≡ true → firstGood latitude ≡ true
 first-side latitude g = rw (latitude-full latitude g) g
@@ -148,12 +150,6 @@ pub joined-trailed : (ps : List Point) → 0 < length ps → joined ps ++ (bytes
 unfolding joined
 joined-trailed [] h = absurd (omega arith)
 joined-trailed (x ∷ ps) h = rw (dashed-trailed ps)
-
--- the points of an outline and the empty places after them
-pub all-replicate : {A : Type 0} (f : A → Bool) (n : ℕ) (x : A) → f x ≡ true → allOf f (replicate n x) ≡ true
-unfolding allOf
-all-replicate f zero x e = refl
-all-replicate f (suc n) x e = rw e (all-replicate f n x e)
 
 pub outlined-words : (closing : ℕ) (qs : List Point) → extentWords closing (outlined qs) ≡ bytes "WI" ∷ joined qs
 unfolding extentWords
@@ -204,7 +200,7 @@ module _ (closing : ℕ) (w : List ℕ) where
       (λ e. goesOn {next = atLatitudeOf (getD w 0 0)} (record { ok = side-letter northSouth w e .0; words = rw (side-letter northSouth w e .1); part = λ site. refl }))
       (λ n. settle (sideWord eastWest w)
       (λ e. goesOn {next = atLongitudeOf noSide (getD w 0 0)}
-      (record { ok = (rw no-side-empty, side-letter eastWest w e .0); words = rw (no-side-empty, side-letter eastWest w e .1); part = λ site. refl }))
+      (record { ok = (first-none, side-letter eastWest w e .0); words = rw (no-side-empty, side-letter eastWest w e .1); part = λ site. refl }))
       (λ m. settle (is "ENTIRE" w)
       (λ e. goesOn {next = atEntire} (record { ok = tt; words = rw (same-is w (bytes "ENTIRE") e); part = λ site. refl }))
       (λ k. on-if {next = atLatitude []} (is "WI" w)
@@ -219,23 +215,26 @@ module _ (closing : ℕ) (w : List ℕ) where
 
   pointed-fine : (ps : List Point) (latitude : Coordinate) → OutlineOk ps → goodCoordinate northSouth latitude ≡ true → goodCoordinate eastWest (coordinateOf eastWest w) ≡ true
       → PlaceFine closing (atLongitude ps latitude) w (pointed ps (record { latitude = latitude; longitude = coordinateOf eastWest w }))
-  unfolding pointed goodPoint
+  unfolding pointed
   pointed-fine ps latitude ok g h =
       settle (closes ps p)
       (λ c. there-if {x = outlined (ps ++ (p ∷ []))} (leb leastPoints (length ps + 1))
       (λ l. record { isGood = closed ps ok c l; words = outlined-words closing (ps ++ (p ∷ [])) ∙ told; part = λ site. refl }))
       (λ c. on-if {next = atDash (ps ++ (p ∷ []))} (roomAfter ps)
-      (λ r. record { ok = (outline-last ps p ok (both-true g h) c r, omega (arith, length-append ps (p ∷ []))); words = told; part = λ site. refl }))
+      (λ r. record { ok = (outline-last ps p ok good c r, omega (arith, length-append ps (p ∷ []))); words = told; part = λ site. refl }))
     where
       p : Point
       p = record { latitude = latitude; longitude = coordinateOf eastWest w }
+
+      good : goodPoint p ≡ true
+      good = point-good p (record { latitude = g; longitude = h })
 
       told : _≡_ {A = List (List ℕ)} (bytes "WI" ∷ joined (ps ++ (p ∷ []))) (bytes "WI" ∷ (trailed ps ++ (spellCoordinate northSouth latitude ∷ []) ++ (w ∷ [])))
       told = rw (joined-last ps p, append-assoc (trailed ps) (spellCoordinate northSouth latitude ∷ []) (w ∷ []), reads-spelled longitude-reads w h)
 
       closed : (ps : List Point) → OutlineOk ps → closes ps p ≡ true → leb leastPoints (length ps + 1) ≡ true → goodExtent (outlined (ps ++ (p ∷ []))) ≡ true
       closed [] ok c l = clash false c refl
-      closed (first ∷ ps) ok c l = outlined-good first ps p (ok .points) (both-true g h) (ok .room) (leb-true leastPoints (length (first ∷ ps) + 1) l) (ok .isOpen) c
+      closed (first ∷ ps) ok c l = outlined-good first ps p (ok .points) good (ok .room) (leb-true leastPoints (length (first ∷ ps) + 1) l) (ok .isOpen) c
 
 pub place-fine : (closing : ℕ) (p : Placing) (w : List ℕ) → PlacingOk p → PlaceFine closing p w (placeStep closing p w)
 unfolding placeStep extentWords

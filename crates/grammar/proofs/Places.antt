@@ -13,11 +13,10 @@ use Rattle.lists.specs.Choice.{either}
 use Rattle.lists.specs.Base.{worthAfter}
 use Rattle.lists.specs.Lists.{allOf, same}
 use Rattle.lists.specs.Text.{bytes}
-use Rattle.lists.proofs.Choice.{by, clash, both-true, either-left, either-right, either-cases}
+use Rattle.lists.proofs.Choice.{by, clash, either-left, either-right, either-cases}
 use Rattle.lists.proofs.Lists.{same-refl}
 use Rattle.figures.specs.Figures.{figuresOf}
 use Rattle.coordinates.specs.Coordinates.{northSouth, eastWest, goodCoordinate, spellCoordinate}
-use Rattle.coordinates.specs.Points.{goodPoint}
 use Rattle.coordinates.specs.declared.Coordinate.{Coordinate}
 use Rattle.coordinates.specs.declared.Point.{Point}
 use Rattle.coordinates.proofs.Axes.{latitude-reads, longitude-reads}
@@ -29,6 +28,7 @@ use Rattle.message.specs.Records.{good}
 use Rattle.message.specs.declared.Ending.the-variants.{Forecast}
 use Rattle.message.specs.declared.Extent.{Extent}
 use Rattle.message.specs.declared.Side.{Side}
+use Rattle.message.proofs.Goodness.{point-good}
 use Rattle.grammar.specs.Numbers.{locationPart, placeNumber}
 use Rattle.grammar.specs.Parts.{marked}
 use Rattle.grammar.specs.Placing.{is, Placed, closes, sameLatitude, roomAfter, entireWord, locating, placeStep}
@@ -43,9 +43,9 @@ use Rattle.grammar.specs.States.Move.{goes}
 use Rattle.grammar.specs.Steps.{levelled, stepLevel, closingAt, after, settled, stepPlace, step}
 use Rattle.grammar.proofs.Invariant.{ObservationOk, LocationOk, LevelOk, ForecastOk, SiteOk, OutlineOk, PlacingOk, Ok, placeMark}
 use Rattle.grammar.proofs.Moves.{Fine, fine-as, fine-end, Next, next-by, next-end}
-use Rattle.grammar.proofs.Moves.Fine.{leads, ends, dies}
+use Rattle.grammar.proofs.Moves.Fine.{leads, dies}
 use Rattle.grammar.proofs.Outlines.{pointAt, latitude-on, dash-on, longitude-on, longitude-there, first-good, other-latitude, first-latitude, first-longitude, east, east-zero, north, north-zero, Elsewhere, elsewhere}
-use Rattle.grammar.proofs.PlaceLaws.{PlaceFine, place-fine, outline-last, good-side, no-side-empty, bounded-first, first-side}
+use Rattle.grammar.proofs.PlaceLaws.{PlaceFine, place-fine, outline-last, good-side, bounded-first, first-none, first-side}
 use Rattle.grammar.proofs.PlaceLaws.PlaceFine.{goesOn, isThere, isPast, isNowhere}
 use Rattle.grammar.proofs.Told.{onward, onward-last, placingWords, toldSite, told, toldRecord}
 
@@ -135,12 +135,12 @@ module _ (ending : (l : ToLevel) → LevelOk l → Next (atEnding l)) where
         → leastPoints ≤ length (first ∷ ps) + 1 → Next (atPlace site (atLongitude (first ∷ ps) latitude))
     shut-longitude first ps latitude placed e h =
         by-last (atLongitude (first ∷ ps) latitude) (spellCoordinate eastWest (first .longitude)) (outlined ((first ∷ ps) ++ (pointAt latitude (first .longitude) ∷ []))) placed
-        (longitude-there (closingAt site) (first ∷ ps) latitude (first .longitude) (first-good first ps (placed .0 .points) .1) (first-longitude first ps latitude e) h) refl
+        (longitude-there (closingAt site) (first ∷ ps) latitude (first .longitude) (first-good first ps (placed .0 .points) .longitude) (first-longitude first ps latitude e) h) refl
 
     shut-latitude : (ps : List Point) → OutlineOk ps → leastPoints ≤ length ps + 1 → Next (atPlace site (atLatitude ps))
     shut-latitude [] placed h = absurd (omega arith)
     shut-latitude (first ∷ ps) placed h =
-        let g : goodCoordinate northSouth (first .latitude) ≡ true = first-good first ps (placed .points) .0 in
+        let g : goodCoordinate northSouth (first .latitude) ≡ true = first-good first ps (placed .points) .latitude in
         let s : sameLatitude (first ∷ ps) (first .latitude) ≡ true = first-latitude first ps in
         let r : either (roomAfter (first ∷ ps)) (sameLatitude (first ∷ ps) (first .latitude)) ≡ true = either-right (roomAfter (first ∷ ps)) s in
         by-word (atLatitude (first ∷ ps)) (atLongitude (first ∷ ps) (first .latitude)) (spellCoordinate northSouth (first .latitude))
@@ -151,13 +151,12 @@ module _ (ending : (l : ToLevel) → LevelOk l → Next (atEnding l)) where
     one-more : (ps : List Point) (latitude c : Coordinate) → PlacingOk (atLongitude ps latitude) → goodCoordinate eastWest c ≡ true
         → closes ps (pointAt latitude c) ≡ false → roomAfter ps ≡ true
         → ((qs : List Point) → OutlineOk qs → length qs ≡ length ps + 1 → Next (atPlace site (atLatitude qs))) → Next (atPlace site (atLongitude ps latitude))
-    unfolding goodPoint
     one-more ps latitude c placed g n r on′ =
         let p : Point = pointAt latitude c in
         let qs : List Point = ps ++ (p ∷ []) in
         by-word (atLongitude ps latitude) (atDash qs) (spellCoordinate eastWest c) (longitude-on (closingAt site) ps latitude c g n r) refl
         (by-word (atDash qs) (atLatitude qs) (bytes "-") (dash-on (closingAt site) qs) refl
-        (on′ qs (outline-last ps p (placed .0) (both-true (placed .1) g) n r) (length-append ps (p ∷ []))))
+        (on′ qs (outline-last ps p (placed .0) (point-good p (record { latitude = placed .1; longitude = g })) n r) (length-append ps (p ∷ []))))
 
     late-longitude : (ps : List Point) (latitude : Coordinate) → PlacingOk (atLongitude ps latitude) → leastPoints ≤ length ps + 1 → Next (atPlace site (atLongitude ps latitude))
     late-longitude [] latitude placed h = absurd (omega arith)
@@ -208,7 +207,7 @@ module _ (ending : (l : ToLevel) → LevelOk l → Next (atEnding l)) where
         (and-next site s ok (good-side northSouth s placed north-zero))
 
     first-bound : Next (atPlace site (atLongitudeOf noSide (code "E")))
-    first-bound = longitude-of noSide (code "E") (rw no-side-empty, refl)
+    first-bound = longitude-of noSide (code "E") (first-none, refl)
 
     entire-next : Next (atPlace site atEntire)
     unfolding placeStep

@@ -1,38 +1,36 @@
 -- The reply on every list of bytes: accepted or refused, as `Replied` says without the machine, and in no other way.
 -- Assumes nothing.
-use mathlib.Core.Bool.{Bool, true, false, not}
+use mathlib.Core.Bool.{Bool, true, false}
 use mathlib.Core.List.{List, [], _∷_, _++_}
-use mathlib.Core.Path.{_≡_, refl, ap, sym, subst, _∙_}
-use Prim.Native.Nat.{ℕ, zero-le, _<_, _≤_}
+use mathlib.Core.Path.{_≡_, refl, ap, _∙_}
+use Prim.Native.Nat.{ℕ, zero-le}
 use native.Mathlib.Omega.{arith}
 use lib.Dec.{eqb}
 use lib.ListN.{length}
 use borrow.Author.Tests.{eq-eqb, ne-eqb, eqb-true, eqb-false}
 use Rattle.lists.specs.Lists.{allOf}
-use Rattle.lists.specs.Text.{bytes}
 use Rattle.lists.proofs.Choice.{by, clash, both-left, both-right}
 use Rattle.words.specs.Check.{checkOf}
 use Rattle.words.specs.Words.{Word, wordsAt, wordsIn, solidWord}
 use Rattle.words.proofs.Words.{Solids, words-solid}
 use Rattle.message.specs.Records.{good}
 use Rattle.message.specs.declared.Record.{Record}
-use Rattle.grammar.specs.Judged.{messageWords, bytesOf, RefusedAt}
-use Rattle.grammar.specs.Numbers.{numberOf}
-use Rattle.grammar.specs.Parts.{Marked, marked}
-use Rattle.grammar.specs.Reads.{acceptance, refusal, replyOf, textIn, readOf}
+use Rattle.grammar.specs.Judged.{messageWords}
+use Rattle.grammar.specs.Parts.{Marked}
+use Rattle.grammar.specs.Reads.{replyOf, textIn, readOf}
 use Rattle.grammar.specs.Replies.{Replied}
 use Rattle.grammar.specs.Replies.Replied.{unreadable, readAs, refusedAs}
-use Rattle.grammar.specs.Runs.{walk, Ran, follow, run, runAt}
-use Rattle.grammar.specs.Runs.Ran.{accepted, refused, unfinished}
+use Rattle.grammar.specs.Runs.{walk, Ran, run, runAt}
+use Rattle.grammar.specs.Runs.Ran.{accepted, refused}
 use Rattle.grammar.specs.States.{State, Move}
 use Rattle.grammar.specs.States.Move.{goes, done, dead}
 use Rattle.grammar.specs.States.State.{atDesignator}
 use Rattle.grammar.specs.Steps.{step}
 use Rattle.grammar.specs.declared.Reply.{Reply}
 use Rattle.grammar.proofs.FirstDead.{refused-there, there-refused}
-use Rattle.grammar.proofs.Invariant.{Ok, mark}
+use Rattle.grammar.proofs.Invariant.{Ok}
 use Rattle.grammar.proofs.Marks.{accepted-good, accepted-words}
-use Rattle.grammar.proofs.Moves.{Fine, Sound, Ended, Next, fine-leads, fine-ends}
+use Rattle.grammar.proofs.Moves.{Fine, Next, fine-leads, fine-ends}
 use Rattle.grammar.proofs.NumberLaws.{Range, number-range, Stops, end-stops}
 use Rattle.grammar.proofs.RunLaws.{run-walks, walk-runs}
 

@@ -9,7 +9,7 @@ use Rattle.words.specs.Words.{Word}
 use Rattle.message.specs.declared.Record.{Record}
 use Rattle.grammar.specs.Judged.{bytesOf}
 use Rattle.grammar.specs.Numbers.{numberOf}
-use Rattle.grammar.specs.Runs.{advance, walk, Ran, finished, run}
+use Rattle.grammar.specs.Runs.{advance, walk, finished, run}
 use Rattle.grammar.specs.Runs.Ran.{accepted, refused, unfinished}
 use Rattle.grammar.specs.States.{State, Move}
 use Rattle.grammar.specs.States.Move.{goes, done, dead}
@@ -58,7 +58,7 @@ unfolding walk
 walk-dead [] = refl
 walk-dead (w ∷ ws) = walk-dead ws
 
-refused-number : {n m p q : ℕ} → refused n p ≡ refused m q → n ≡ m
+pub refused-number : {n m p q : ℕ} → refused n p ≡ refused m q → n ≡ m
 refused-number e = cc
 
 refused-place : {n m p q : ℕ} → refused n p ≡ refused m q → p ≡ q
@@ -78,10 +78,10 @@ breaks-later s next w ws n p k b =
       numbered = rw e (b .numbered);
     }
 
-accepted-not : {r : Record} {n p : ℕ} → accepted r ≡ refused n p → ⊥
+pub accepted-not : {r : Record} {n p : ℕ} → accepted r ≡ refused n p → ⊥
 accepted-not e = let z : _≡_ {A = ℕ} 0 1 = cc in omega arith
 
-unfinished-not : {n p : ℕ} → unfinished ≡ refused n p → ⊥
+pub unfinished-not : {n p : ℕ} → unfinished ≡ refused n p → ⊥
 unfinished-not e = let z : _≡_ {A = ℕ} 0 1 = cc in omega arith
 
 -- something after the `=`

@@ -1,13 +1,13 @@
 -- The sections put together: what every word owes in every state, and that every state which is reached is live.
 -- Assumes nothing.
-use mathlib.Core.Bool.{Bool, true, false}
+use mathlib.Core.Bool.{false}
 use mathlib.Core.List.{List}
 use mathlib.Core.Path.{_≡_}
 use Prim.Native.Nat.{ℕ}
 use Rattle.message.specs.declared.FirstLine.{FirstLine}
 use Rattle.message.specs.declared.Heading.{Heading}
 use Rattle.grammar.specs.Placing.{is}
-use Rattle.grammar.specs.States.{ToArea, ToPhenomenon, ToObservation, ToLevel, Site, State}
+use Rattle.grammar.specs.States.{ToPhenomenon, ToObservation, Site, State}
 use Rattle.grammar.specs.States.Move.{goes}
 use Rattle.grammar.specs.States.Placing.{atLocation}
 use Rattle.grammar.specs.States.Site.{inReport}

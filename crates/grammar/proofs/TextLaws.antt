@@ -1,7 +1,7 @@
 -- From words to bytes: a good record's text is read as that record and is canonical, and a canonical text that is read is the text of its
 -- record. What is accepted is handed over: the words of a good record, and no others.
 -- Assumes nothing.
-use mathlib.Core.Bool.{Bool, true, false, not}
+use mathlib.Core.Bool.{Bool, true, not}
 use mathlib.Core.List.{List, [], _∷_, _++_, append-assoc, append-cancel-right}
 use mathlib.Core.Path.{_≡_, refl, ap, sym, _∙_}
 use Prim.Native.Nat.{ℕ, suc, _+_, _≤_}
@@ -9,8 +9,8 @@ use native.Mathlib.Omega.{arith}
 use lib.Dec.{ltb, eqb}
 use lib.ListN.{length, take, drop, length-append}
 use lib.Seq.{take-append-seam}
-use borrow.Author.Tests.{eqb-true, ltb-false, le-ltb, ne-eqb}
-use Rattle.lists.specs.Choice.{both, either}
+use borrow.Author.Tests.{eqb-true, ltb-false, le-ltb}
+use Rattle.lists.specs.Choice.{both}
 use Rattle.lists.specs.Lists.{allOf}
 use Rattle.lists.proofs.Choice.{by, clash, both-left, both-right, either-cases}
 use Rattle.lists.proofs.Lists.{all-append, all-weaken}
@@ -19,17 +19,15 @@ use Rattle.words.specs.Check.{checkOf}
 use Rattle.words.specs.Words.{Word, wordsIn, solidWord, plainWord, line}
 use Rattle.words.proofs.Refusals.{check-readable, check-bare}
 use Rattle.words.proofs.Words.{run-all, gap-crlf, words-line, words-line-end}
-use Rattle.figures.specs.Letters.{inLetters, goodLetters}
-use Rattle.figures.proofs.LetterLaws.{length-inLetters}
 use Rattle.figures.proofs.PlainLaws.{plain-solid}
-use Rattle.groups.specs.Groups.{goodGroup}
-use Rattle.headings.specs.Headings.{goodDesignator, correctionOf, goodCorrection}
+use Rattle.headings.specs.Headings.{goodCorrection}
 use Rattle.headings.proofs.HeadingLaws.{correction-reads}
-use Rattle.message.specs.Records.{goodHeading, goodLine, goodArea, goodForm, good}
+use Rattle.message.specs.Records.{goodHeading, goodLine, good}
 use Rattle.message.specs.Words.{headingWords, lineWords, bodyWords, wordsOf, newLine, textOf}
 use Rattle.message.specs.declared.FirstLine.{FirstLine}
 use Rattle.message.specs.declared.Heading.{Heading}
 use Rattle.message.specs.declared.Record.{Record}
+use Rattle.message.proofs.Goodness.{good-parts, heading-parts}
 use Rattle.grammar.specs.Judged.{messageWords}
 use Rattle.grammar.specs.Layout.{headingCount, laidOut, Canonical}
 use Rattle.grammar.specs.Numbers.{numberOf}
@@ -43,30 +41,23 @@ use Rattle.grammar.specs.Steps.{step}
 use Rattle.grammar.specs.declared.Reply.{Reply}
 use Rattle.grammar.specs.Writes.{Wrote, unwritten, written, writeOf}
 use Rattle.grammar.proofs.NumberLaws.{number-range}
+use Rattle.grammar.proofs.Opening.{some-correction, no-correction}
+use Rattle.grammar.proofs.RunLaws.{refused-number, accepted-not, unfinished-not}
 
 -- A refusal's number is not 0.
-
-same-number : (n m p q : ℕ) → refused n p ≡ refused m q → n ≡ m
-same-number n m p q e = cc
-
-unlike : {A : Type 0} (r : Record) (n p : ℕ) → accepted r ≡ refused n p → A
-unlike r n p e = let z : _≡_ {A = ℕ} 0 1 = cc in absurd (omega arith)
-
-unfinished-is : {A : Type 0} (n p : ℕ) → unfinished ≡ refused n p → A
-unfinished-is n p e = let z : _≡_ {A = ℕ} 0 1 = cc in absurd (omega arith)
 
 follow-number : (m : Move) (s : State) (place : ℕ) (ws : List Word) (n p : ℕ)
     → ((next : State) → run next ws ≡ refused n p → 3 ≤ n)
     → follow m (numberOf s) place ws (λ (next : State). run next ws) ≡ refused n p
     → 3 ≤ n
 follow-number (goes next) s place ws n p later e = later next e
-follow-number (done r) s place [] n p later e = unlike r n p e
-follow-number (done r) s place (w ∷ ws) n p later e = omega (arith, same-number 3 n (w .place) p e)
-follow-number dead s place ws n p later e = omega (arith, number-range s .low, same-number (numberOf s) n place p e)
+follow-number (done r) s place [] n p later e = absurd (accepted-not e)
+follow-number (done r) s place (w ∷ ws) n p later e = omega (arith, refused-number e)
+follow-number dead s place ws n p later e = omega (arith, number-range s .low, refused-number e)
 
 pub run-number : (s : State) (ws : List Word) (n p : ℕ) → run s ws ≡ refused n p → 3 ≤ n
 unfolding run
-run-number s [] n p e = unfinished-is n p e
+run-number s [] n p e = absurd (unfinished-not e)
 run-number s (w ∷ ws) n p e = follow-number (step s (w .bytes)) s (w .place) ws n p (λ next h. run-number next ws n p h) e
 
 reply-accepted : (ran : Ran) (r : Record) → ((n p : ℕ) → ran ≡ refused n p → 3 ≤ n) → replyOf ran ≡ acceptance r → ran ≡ accepted r
@@ -110,45 +101,19 @@ solid-words ws t = all-weaken plainWord solidWord plain-solid ws t
 
 -- The fourth word of a record's words is a correction exactly where the record has one.
 
--- a word of four letters is no correction
-unit-no-correction : (u : ℕ) → goodCorrection (correctionOf (inLetters 4 u)) ≡ false
-unfolding correctionOf goodCorrection
-unit-no-correction u = rw (ne-eqb (length (inLetters 4 u)) 3 (λ e. omega (arith, length-inLetters 4 u)))
-
-good-heading : (r : Record) → good r ≡ true → goodHeading (r .heading) ≡ true
-unfolding good
-good-heading r g =
-    both-left (goodHeading (r .heading))
-    (both (goodLine (r .line)) (both (goodArea (r .area)) (goodForm (r .heading .designator .kind) (r .line) (r .report) (r .form))))
-    g
-
-good-line : (r : Record) → good r ≡ true → goodLine (r .line) ≡ true
-unfolding good
-good-line r g =
-    let rest : Bool = both (goodArea (r .area)) (goodForm (r .heading .designator .kind) (r .line) (r .report) (r .form)) in
-    both-left (goodLine (r .line)) rest (both-right (goodHeading (r .heading)) (both (goodLine (r .line)) rest) g)
-
-heading-correction : (h : Heading) → goodHeading h ≡ true → either (eqb (h .correction) 0) (goodCorrection (h .correction)) ≡ true
-unfolding goodHeading
-heading-correction h g =
-    let c : Bool = either (eqb (h .correction) 0) (goodCorrection (h .correction)) in
-    both-right (goodGroup (h .sent)) c
-    (both-right (goodLetters 4 (h .centre)) (both (goodGroup (h .sent)) c)
-    (both-right (goodDesignator (h .designator)) (both (goodLetters 4 (h .centre)) (both (goodGroup (h .sent)) c)) g))
-
 laid-bare : (r : Record) → eqb (r .heading .correction) 0 ≡ true → laidOut (headingCount (wordsOf r)) (wordsOf r) ≡ textOf r
 unfolding wordsOf headingWords lineWords textOf
-laid-bare r e = rw (e, unit-no-correction (r .line .unit))
+laid-bare r e = rw (e, no-correction (r .line .unit))
 
 laid-corrected : (r : Record) → goodCorrection (r .heading .correction) ≡ true → laidOut (headingCount (wordsOf r)) (wordsOf r) ≡ textOf r
 unfolding wordsOf headingWords lineWords textOf
 laid-corrected r g =
     let c : ℕ = r .heading .correction in
-    rw (ne-eqb c 0 (λ e. clash (goodCorrection c) g (rw e (correction-reads .refuses))), correction-reads .forth c g, g)
+    rw (some-correction c g, correction-reads .forth c g, g)
 
 pub laid-text : (r : Record) → good r ≡ true → laidOut (headingCount (wordsOf r)) (wordsOf r) ≡ textOf r
 laid-text r g =
-    either-cases (eqb (r .heading .correction) 0) (goodCorrection (r .heading .correction)) (heading-correction (r .heading) (good-heading r g))
+    either-cases (eqb (r .heading .correction) 0) (goodCorrection (r .heading .correction)) (heading-parts (r .heading) (good-parts r g .heading) .correction)
     (laid-bare r)
     (laid-corrected r)
 
@@ -188,11 +153,11 @@ module _
     before-all f space cr lf imp r g =
         rw (
           all-append f (line (headingWords (r .heading))),
-          line-all f space imp (headingWords (r .heading)) (plain-heading (r .heading) (good-heading r g)),
+          line-all f space imp (headingWords (r .heading)) (plain-heading (r .heading) (good-parts r g .heading)),
           cr,
           lf,
           all-append f (line (lineWords (r .line))),
-          line-all f space imp (lineWords (r .line)) (plain-line (r .line) (good-line r g)),
+          line-all f space imp (lineWords (r .line)) (plain-line (r .line) (good-parts r g .line)),
           cr,
           lf,
         )
@@ -217,8 +182,8 @@ module _
         let hs : List (List ℕ) = headingWords (r .heading) in
         let ls : List (List ℕ) = lineWords (r .line) in
         let bs : List (List ℕ) = bodyWords r in
-        words-line hs newLine (line ls ++ (newLine ++ line bs)) (solid-words hs (plain-heading (r .heading) (good-heading r g))) gap-crlf
-        ∙ (ap (λ (ws : List (List ℕ)). hs ++ ws) (words-line ls newLine (line bs) (solid-words ls (plain-line (r .line) (good-line r g))) gap-crlf
+        words-line hs newLine (line ls ++ (newLine ++ line bs)) (solid-words hs (plain-heading (r .heading) (good-parts r g .heading))) gap-crlf
+        ∙ (ap (λ (ws : List (List ℕ)). hs ++ ws) (words-line ls newLine (line bs) (solid-words ls (plain-line (r .line) (good-parts r g .line))) gap-crlf
         ∙ ap (λ (ws : List (List ℕ)). ls ++ ws) (words-line-end bs (solid-words bs (plain-body r g))))
         ∙ sym (append-assoc hs (ls ++ bs) ([] ∷ []) ∙ ap (λ (ws : List (List ℕ)). hs ++ ws) (append-assoc ls bs ([] ∷ []))))
 

@@ -4,7 +4,7 @@
 use mathlib.Core.Bool.{true}
 use mathlib.Core.List.{List, [], _∷_, _++_}
 use mathlib.Core.Logic.{_↔_}
-use mathlib.Core.Path.{_≡_, refl, ap, sym, _∙_}
+use mathlib.Core.Path.{_≡_, ap, sym, _∙_}
 use Prim.Native.Nat.{ℕ, suc, _≤_}
 use lib.ListN.{length, take}
 use borrow.Author.Tests.{le-ltb}
@@ -20,7 +20,7 @@ use Rattle.grammar.specs.Runs.{walk, run}
 use Rattle.grammar.specs.Runs.Ran.{accepted, refused}
 use Rattle.grammar.specs.States.Move.{goes, done}
 use Rattle.grammar.specs.States.State.{atDesignator}
-use Rattle.grammar.specs.Writes.{Wrote, writeOf, written, unwritten}
+use Rattle.grammar.specs.Writes.{writeOf, written, unwritten}
 use Rattle.grammar.specs.declared.Reply.{Reply}
 use Rattle.grammar.proofs.FirstDead.{refused-there, there-refused}
 use Rattle.grammar.proofs.Forth.{good-accepted}

@@ -1,7 +1,7 @@
 -- What a state has been told: the words read so far with the numbers of their parts, the last word first.
 -- Assumes nothing.
-use mathlib.Core.List.{List, [], _∷_, _++_, map}
-use mathlib.Core.Path.{_≡_, refl, ap, _∙_}
+use mathlib.Core.List.{List, [], _∷_, _++_, map-append}
+use mathlib.Core.Path.{_≡_, refl, _∙_}
 use Prim.Native.Nat.{ℕ}
 use lib.Dec.{eqb}
 use lib.ListN.{take}
@@ -9,7 +9,7 @@ use Rattle.lists.specs.Choice.{pick}
 use Rattle.lists.specs.Text.{bytes}
 use Rattle.figures.specs.Letters.{inLetters}
 use Rattle.figures.specs.Tables.{numbered}
-use Rattle.coordinates.specs.Coordinates.{northSouth, eastWest, spellCoordinate}
+use Rattle.coordinates.specs.Coordinates.{northSouth, spellCoordinate}
 use Rattle.coordinates.specs.Points.{pointWords}
 use Rattle.coordinates.specs.declared.Point.{Point}
 use Rattle.groups.specs.Groups.{spellGroup, spellPeriod, spellTime}
@@ -38,7 +38,7 @@ use Rattle.message.specs.declared.Record.{Record}
 use Rattle.message.specs.declared.Side.{Side}
 use Rattle.headings.specs.declared.Sequence.{Sequence}
 use Rattle.grammar.specs.Numbers.{locationPart}
-use Rattle.grammar.specs.Parts.{Marked, marked, inPart, reportParts, formParts, partsOf}
+use Rattle.grammar.specs.Parts.{Marked, marked, inPart, formParts, partsOf}
 use Rattle.grammar.specs.Records.{formed, testOf, cancellationOf, areaOf, reportOf}
 use Rattle.grammar.specs.States.{ToArea, ToPhenomenon, ToObservation, ToLocation, ToLevel, Site, Placing, State}
 use Rattle.grammar.specs.States.Site.{inReport, inForecast}
@@ -57,10 +57,6 @@ rev-append (x ∷ xs) ys back = rev-append xs ys (x ∷ back)
 
 pub rev-last : {A : Type 0} (xs : List A) (x : A) (back : List A) → revOnto (xs ++ (x ∷ [])) back ≡ x ∷ revOnto xs back
 rev-last xs x back = rev-append xs (x ∷ []) back
-
-pub map-append : {A B : Type 0} (f : A → B) (xs ys : List A) → map f (xs ++ ys) ≡ map f xs ++ map f ys
-map-append f [] ys = refl
-map-append f (x ∷ xs) ys = ap (λ (r : List _). f x ∷ r) (map-append f xs ys)
 
 -- words of one part, behind what was told before
 abbrev pub onward : ℕ → List (List ℕ) → List Marked → List Marked

@@ -2,7 +2,7 @@
 -- Assumes nothing.
 use mathlib.Core.Bool.{true}
 use mathlib.Core.List.{List, [], _∷_, _++_}
-use mathlib.Core.Logic.{_⊎_, _↔_}
+use mathlib.Core.Logic.{_↔_}
 use mathlib.Core.Logic._⊎_.{inl, inr}
 use mathlib.Core.Path.{_≡_, refl, ap, sym, subst, _∙_}
 use Prim.Native.Nat.{ℕ, _≤_}
@@ -11,12 +11,12 @@ use Rattle.words.specs.Words.{Word}
 use Rattle.message.specs.Records.{good}
 use Rattle.message.specs.Words.{wordsOf}
 use Rattle.message.specs.declared.Record.{Record}
-use Rattle.grammar.specs.Judged.{messageWords, bytesOf, Whole, ComesNext, JudgedAs, Numbered, RefusedAt}
+use Rattle.grammar.specs.Judged.{messageWords, bytesOf, Whole, ComesNext, Numbered, RefusedAt}
 use Rattle.grammar.specs.Numbers.{numberOf}
-use Rattle.grammar.specs.Parts.{Marked, marked, partsOf, messageParts}
-use Rattle.grammar.specs.Runs.{advance, walk}
+use Rattle.grammar.specs.Parts.{marked, partsOf}
+use Rattle.grammar.specs.Runs.{walk}
 use Rattle.grammar.specs.States.{State, Move}
-use Rattle.grammar.specs.States.Move.{goes, done, dead}
+use Rattle.grammar.specs.States.Move.{goes, done}
 use Rattle.grammar.specs.States.State.{atDesignator}
 use Rattle.grammar.specs.Steps.{step}
 use Rattle.grammar.proofs.Invariant.{Ok}
@@ -24,8 +24,8 @@ use Rattle.grammar.proofs.Marks.{unmarked, parts-words, start}
 use Rattle.grammar.proofs.Moves.{Fine, Next, walk-append}
 use Rattle.grammar.proofs.NumberLaws.{number-range}
 use Rattle.grammar.proofs.PartLaws.{other-last, words-parts}
-use Rattle.grammar.proofs.RunLaws.{Alive, moveNumber, dead-done}
-use Rattle.grammar.proofs.RunLaws.Alive.{going, over}
+use Rattle.grammar.proofs.RunLaws.{Alive, dead-done}
+use Rattle.grammar.proofs.RunLaws.Alive.{going}
 use Rattle.grammar.proofs.FirstDead.{begun-alive, numbers-one, whole-done}
 
 -- what is in front of a last word

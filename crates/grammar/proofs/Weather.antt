@@ -2,31 +2,27 @@
 -- Assumes nothing.
 use mathlib.Core.Bool.{true, false}
 use mathlib.Core.List.{List, [], _∷_, _++_, append-nil}
-use mathlib.Core.Path.{_≡_, refl, ap, _∙_}
+use mathlib.Core.Path.{_≡_, refl}
 use Prim.Native.Nat.{ℕ, zero, suc, _-_, _*_, _≤_}
 use native.Mathlib.Omega.{arith}
-use lib.Dec.{eqb, lit<}
-use lib.ListN.{length, drop, getD, replicate}
-use borrow.Author.Tests.{eqb-true, eq-eqb, ne-eqb}
+use lib.Dec.{lit<}
+use lib.ListN.{getD}
+use borrow.Author.Tests.{eq-eqb, ne-eqb}
 use Rattle.lists.specs.Lists.{indexOf, allOf, same}
 use Rattle.lists.specs.Text.{bytes}
-use Rattle.lists.proofs.Choice.{clash, both-left, both-right, both-true, either-left}
+use Rattle.lists.proofs.Choice.{clash, both-true, either-left}
 use Rattle.lists.proofs.Lists.{all-at, same-is}
 use Rattle.words.specs.Bytes.{between, allowed}
 use Rattle.words.specs.Words.{plainWord}
-use Rattle.words.proofs.Ranges.{between-low, between-high}
+use Rattle.words.proofs.Ranges.{between-high}
 use Rattle.figures.specs.Keywords.{distinct}
 use Rattle.figures.specs.Reads.{Reads}
 use Rattle.figures.specs.Tables.{numbered}
 use Rattle.figures.proofs.TableLaws.{numbers-reads}
-use Rattle.coordinates.specs.Coordinates.{emptyCoordinate}
-use Rattle.coordinates.specs.Points.{emptyPoint}
-use Rattle.coordinates.proofs.Goodness.{empty-point-is}
-use Rattle.message.specs.Limits.{ws, eruption, nameBytes}
-use Rattle.message.specs.Names.{zeroByte, unusedZero, emptyName, noName}
+use Rattle.message.specs.Limits.{ws, ashCloud, eruption}
 use Rattle.message.specs.Reports.{phenomena, emptyVolcano, noVolcano, goodPhenomenon, phenomenonWords}
-use Rattle.message.specs.declared.Name.{Name}
 use Rattle.message.specs.declared.Volcano.{Volcano}
+use Rattle.message.proofs.Empties.{empty-volcano-is, no-volcano-empty}
 use Rattle.grammar.specs.Placing.{is}
 use Rattle.grammar.specs.Runs.{walk}
 use Rattle.grammar.specs.States.{ToArea, ToPhenomenon}
@@ -45,13 +41,9 @@ storm-reads = numbers-reads 1 stormWords (lit< tt) (lit< tt) refl
 
 -- Sound.
 
-no-volcano : emptyVolcano noVolcano ≡ true
-unfolding emptyVolcano emptyName emptyPoint emptyCoordinate allOf
-no-volcano = refl
-
 good-weather : (o : ToArea) (n : ℕ) → WeatherOk o → between 1 15 n ≡ true → PhenomenonOk (weather o n)
 unfolding goodPhenomenon
-good-weather o n ok b = record { before = ok .opening; phenomenon = either-left _ (both-true (eq-eqb (kindOf o) ws (ok .kind)) (both-true b no-volcano)) }
+good-weather o n ok b = record { before = ok .opening; phenomenon = either-left _ (both-true (eq-eqb (kindOf o) ws (ok .kind)) (both-true b no-volcano-empty)) }
 
 -- a storm with `TS` and with `TSGR`
 record Storm (n : ℕ) : Type 0 where
@@ -127,38 +119,6 @@ module _ (observed : (p : ToPhenomenon) (n : ℕ) → Ok (atObserved p n) → Ne
 
 -- Forth: what is written is read.
 
-zeros : (xs : List ℕ) → allOf zeroByte xs ≡ true → xs ≡ replicate (length xs) 0
-unfolding allOf
-zeros [] t = refl
-zeros (x ∷ xs) t =
-    let first : x ≡ 0 = eqb-true x 0 (both-left (eqb x 0) (allOf zeroByte xs) t) in
-    let rest : xs ≡ replicate (length xs) 0 = zeros xs (both-right (eqb x 0) (allOf zeroByte xs) t) in
-    cc
-
--- the empty name is that one alone, and so the volcano
-name-none : (n : Name) → emptyName n ≡ true → n ≡ noName
-unfolding emptyName
-name-none n e = λ i. record { bytes = all i; count = none i }
-  where
-    none : n .count ≡ 0
-    none = eqb-true (n .count) 0 (both-left (eqb (n .count) 0) (unusedZero n) e)
-
-    unused : unusedZero n ≡ true
-    unused = both-right (eqb (n .count) 0) (unusedZero n) e
-
-    all : n .bytes ≡ replicate nameBytes 0
-    all =
-        let long : length (n .bytes) ≡ nameBytes = eqb-true (length (n .bytes)) nameBytes (both-left (eqb (length (n .bytes)) nameBytes) _ unused) in
-        let past : allOf zeroByte (drop (n .count) (n .bytes)) ≡ true = both-right (eqb (length (n .bytes)) nameBytes) _ unused in
-        zeros (n .bytes) (rw none at past) ∙ ap (λ (k : ℕ). replicate k 0) long
-
-pub weather-volcano : (v : Volcano) → emptyVolcano v ≡ true → v ≡ noVolcano
-unfolding emptyVolcano
-weather-volcano v e = λ i. record {
-  name = name-none (v .name) (both-left (emptyName (v .name)) (emptyPoint (v .position)) e) i;
-  position = empty-point-is (v .position) (both-right (emptyName (v .name)) (emptyPoint (v .position)) e) i;
-}
-
 forth-none : (o : ToArea) (n : ℕ) (w : List ℕ) (ws : List (List ℕ)) → kindOf o ≡ 2 → between 1 15 n ≡ true → is "(FZRA)" w ≡ false
     → walk (goes (atForm o)) (phenomenonWords n noVolcano ++ (w ∷ ws)) ≡ walk (goes (atObservation (weather o n))) (w ∷ ws)
 unfolding walk step stepForm same indexOf stormWords phenomena phenomenonWords
@@ -183,7 +143,7 @@ forth-none o (suc (suc (suc (suc (suc (suc (suc (suc (suc (suc (suc (suc (suc (s
 
 pub forth-weather : (o : ToArea) (n : ℕ) (v : Volcano) (w : List ℕ) (ws : List (List ℕ)) → kindOf o ≡ 2 → between 1 15 n ≡ true → emptyVolcano v ≡ true → is "(FZRA)" w ≡ false
     → walk (goes (atForm o)) (phenomenonWords n v ++ (w ∷ ws)) ≡ walk (goes (atObservation (record { before = o; phenomenon = n; volcano = v }))) (w ∷ ws)
-forth-weather o n v w ws k b e f = rw (weather-volcano v e) (forth-none o n w ws k b f)
+forth-weather o n v w ws k b e f = rw (empty-volcano-is v e) (forth-none o n w ws k b f)
 
 -- Plain: what is written is made of the bytes that a word may have.
 
@@ -191,9 +151,7 @@ plain-phenomena : allOf (allOf plainWord) phenomena ≡ true
 unfolding phenomena allOf allowed
 plain-phenomena = refl
 
-pub plain-phenomenon : (n : ℕ) (v : Volcano) → between 1 16 n ≡ true → allOf plainWord (phenomenonWords n v) ≡ true
+pub plain-phenomenon : (n : ℕ) (v : Volcano) → 1 ≤ n → n ≤ ashCloud → allOf plainWord (phenomenonWords n v) ≡ true
 unfolding phenomenonWords phenomena
-plain-phenomenon n v b =
-    let low : 1 ≤ n = between-low 1 16 n b in
-    let high : n ≤ 16 = between-high 1 16 n b in
+plain-phenomenon n v low high =
     rw (ne-eqb n eruption (λ e. omega arith), append-nil (getD phenomena (n - 1) [])) (all-at (allOf plainWord) phenomena [] plain-phenomena (n - 1) (omega arith))

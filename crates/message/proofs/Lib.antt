@@ -1,2 +1,4 @@
 pub mod Samples
 pub mod Determined
+pub mod Goodness
+pub mod Empties
