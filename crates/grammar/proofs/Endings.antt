@@ -51,7 +51,7 @@ use Rattle.grammar.specs.States.Move.{goes, done}
 use Rattle.grammar.specs.States.Placing.{atLocation}
 use Rattle.grammar.specs.States.Site.{inForecast}
 use Rattle.grammar.specs.States.State.{atPlace, atLevel, atTop, atAbove, atTopAbove, atEnding, atCompass, atSpeed, atMovingIntensity, atStationary, atForecast, atForecastAt, atForecastTime, atEnd}
-use Rattle.grammar.specs.Steps.{kindOf, flightOf, levelled, stepLevel, stepEnding, sameTime, endTime, closingAt, after, step}
+use Rattle.grammar.specs.Steps.{forecasts, kindOf, flightOf, levelled, stepLevel, stepEnding, sameTime, endTime, closingAt, after, step}
 use Rattle.grammar.proofs.Invariant.{OpeningOk, PhenomenonOk, LevelOk, ForecastOk, SiteOk, Ok}
 use Rattle.grammar.proofs.Moves.{Fine, chosen, goes-if, Next, next-by, next-end, walk-step}
 use Rattle.grammar.proofs.Moves.Fine.{leads}
@@ -148,7 +148,7 @@ ending-sound l w ok =
     let kind : Bool = eqb (kindOf (areaOf l)) ws in
     chosen (is "MOV" w) (λ e. leads (record { ok = ok; tells = rw (same-is w (bytes "MOV") e) }))
     (λ _. chosen (is "STNR" w) (λ e. leads (record { ok = ok; tells = rw (same-is w (bytes "STNR") e) }))
-    (λ _. goes-if (both kind (goodIntensity (intensityOf w))) (λ g. record {
+    (λ _. goes-if (forecasts l w) (λ g. record {
       ok = record { level = ok; kind = both-left kind (goodIntensity (intensityOf w)) g; intensity = both-right kind (goodIntensity (intensityOf w)) g };
       tells = rw (reads-spelled intensity-reads w (both-right kind (goodIntensity (intensityOf w)) g));
     })))

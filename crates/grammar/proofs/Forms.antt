@@ -44,7 +44,7 @@ use Rattle.grammar.specs.Runs.{walk}
 use Rattle.grammar.specs.States.{ToArea}
 use Rattle.grammar.specs.States.Move.{goes, done}
 use Rattle.grammar.specs.States.State.{atForm, atTest, atTestText, atCancelSigmet, atCancelSequence, atCancelPeriod, atEnd}
-use Rattle.grammar.specs.Steps.{cancels, kindOf, testText, afterTest, stormOf, goodStorm, stepForm, stepWeather, step}
+use Rattle.grammar.specs.Steps.{isSequence, cancels, kindOf, testText, afterTest, stormOf, goodStorm, stepForm, stepWeather, step}
 use Rattle.grammar.proofs.Invariant.{OpeningOk, WeatherOk, Ok}
 use Rattle.grammar.proofs.Moves.{Fine, Sound, chosen, goes-if, fine-as, fine-end, Next, next-by, next-end, walk-step}
 use Rattle.grammar.proofs.Moves.Fine.{leads}
@@ -125,7 +125,7 @@ cancel-sigmet-sound o w ok = goes-if (is "SIGMET" w) (λ e. record { ok = ok; te
 
 pub cancel-sequence-sound : (o : ToArea) (w : List ℕ) → Ok (atCancelSequence o) → Fine (atCancelSequence o) w (step (atCancelSequence o) w)
 unfolding step told
-cancel-sequence-sound o w ok = goes-if (goodSequence (sequenceOf w)) (λ g. record { ok = (ok, g); tells = rw (reads-spelled sequence-reads w g) })
+cancel-sequence-sound o w ok = goes-if (isSequence w) (λ g. record { ok = (ok, g); tells = rw (reads-spelled sequence-reads w g) })
 
 -- the same group is that group
 same-group-is : (g h : Group) → sameGroup g h ≡ true → g ≡ h

@@ -43,7 +43,7 @@ use Rattle.grammar.specs.Runs.{walk}
 use Rattle.grammar.specs.States.{ToArea, State}
 use Rattle.grammar.specs.States.Move.{goes}
 use Rattle.grammar.specs.States.State.{atDesignator, atCentre, atSent, atCorrection, atUnit, atSigmet, atSequence, atValid, atPeriod, atOffice, atIndicator}
-use Rattle.grammar.specs.Steps.{goesIf, kindOf, step}
+use Rattle.grammar.specs.Steps.{isSequence, goesIf, kindOf, step}
 use Rattle.grammar.proofs.Invariant.{OpeningOk, Ok}
 use Rattle.grammar.proofs.Moves.{Fine, chosen, goes-if, fine-as, Next, next-by, walk-step}
 use Rattle.grammar.proofs.Moves.Fine.{leads}
@@ -100,7 +100,7 @@ sigmet-sound h u w ok = goes-if (is "SIGMET" w) (λ g. record { ok = ok; tells =
 pub sequence-sound : (h : Heading) (u : ℕ) (w : List ℕ) → Ok (atSequence h u) → Fine (atSequence h u) w (step (atSequence h u) w)
 unfolding step told
 sequence-sound h u w ok =
-    goes-if (goodSequence (sequenceOf w)) (λ g. record { ok = (ok .0, ok .1, g); tells = rw (reads-spelled sequence-reads w g) })
+    goes-if (isSequence w) (λ g. record { ok = (ok .0, ok .1, g); tells = rw (reads-spelled sequence-reads w g) })
 
 pub valid-sound : (h : Heading) (u : ℕ) (s : Sequence) (w : List ℕ) → Ok (atValid h u s) → Fine (atValid h u s) w (step (atValid h u s) w)
 unfolding step told

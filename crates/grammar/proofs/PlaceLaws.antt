@@ -28,7 +28,7 @@ use Rattle.message.specs.declared.Side.{Side}
 use Rattle.message.proofs.Empties.{all-replicate, no-points-empty, no-side-empty}
 use Rattle.message.proofs.Goodness.{point-good, side-parts}
 use Rattle.grammar.specs.Numbers.{locationPart, followingPart}
-use Rattle.grammar.specs.Placing.{is, Placed, onIf, thereIf, sideWord, entireWord, closes, sameLatitude, roomAfter, pointed, locating, placeStep}
+use Rattle.grammar.specs.Placing.{enough, mayFollow, is, Placed, onIf, thereIf, sideWord, entireWord, closes, sameLatitude, roomAfter, pointed, locating, placeStep}
 use Rattle.grammar.specs.Placing.Placed.{on, there, past, nowhere}
 use Rattle.grammar.specs.Records.{bounded, outlined, entirely}
 use Rattle.grammar.specs.States.{Site, Placing}
@@ -218,7 +218,7 @@ module _ (closing : ℕ) (w : List ℕ) where
   unfolding pointed
   pointed-fine ps latitude ok g h =
       settle (closes ps p)
-      (λ c. there-if {x = outlined (ps ++ (p ∷ []))} (leb leastPoints (length ps + 1))
+      (λ c. there-if {x = outlined (ps ++ (p ∷ []))} (enough ps)
       (λ l. record { isGood = closed ps ok c l; words = outlined-words closing (ps ++ (p ∷ [])) ∙ told; part = λ site. refl }))
       (λ c. on-if {next = atDash (ps ++ (p ∷ []))} (roomAfter ps)
       (λ r. record { ok = (outline-last ps p ok good c r, omega (arith, length-append ps (p ∷ []))); words = told; part = λ site. refl }))
@@ -232,7 +232,7 @@ module _ (closing : ℕ) (w : List ℕ) where
       told : _≡_ {A = List (List ℕ)} (bytes "WI" ∷ joined (ps ++ (p ∷ []))) (bytes "WI" ∷ (trailed ps ++ (spellCoordinate northSouth latitude ∷ []) ++ (w ∷ [])))
       told = rw (joined-last ps p, append-assoc (trailed ps) (spellCoordinate northSouth latitude ∷ []) (w ∷ []), reads-spelled longitude-reads w h)
 
-      closed : (ps : List Point) → OutlineOk ps → closes ps p ≡ true → leb leastPoints (length ps + 1) ≡ true → goodExtent (outlined (ps ++ (p ∷ []))) ≡ true
+      closed : (ps : List Point) → OutlineOk ps → closes ps p ≡ true → enough ps ≡ true → goodExtent (outlined (ps ++ (p ∷ []))) ≡ true
       closed [] ok c l = clash false c refl
       closed (first ∷ ps) ok c l = outlined-good first ps p (ok .points) good (ok .room) (leb-true leastPoints (length (first ∷ ps) + 1) l) (ok .isOpen) c
 
@@ -272,9 +272,9 @@ place-fine closing atEntire w ok =
     (λ e. record { isGood = entirely-good; words = rw (same-is w (entireWord closing) e); part = λ site. refl })
 place-fine closing (atLatitude ps) w ok =
     let c : Coordinate = coordinateOf northSouth w in
-    on-if {next = atLongitude ps c} (both (goodCoordinate northSouth c) (either (roomAfter ps) (sameLatitude ps c)))
+    on-if {next = atLongitude ps c} (both (goodCoordinate northSouth c) (mayFollow ps c))
     (λ e. let g : goodCoordinate northSouth c ≡ true = both-left _ _ e in record {
-      ok = (ok, g, both-right (goodCoordinate northSouth c) (either (roomAfter ps) (sameLatitude ps c)) e);
+      ok = (ok, g, both-right (goodCoordinate northSouth c) (mayFollow ps c) e);
       words = rw (reads-spelled latitude-reads w g);
       part = λ site. refl;
     })

@@ -55,10 +55,18 @@ sameLatitude (first ∷ ps) c = eqb (apart (signedOf (first .latitude)) (signedO
 abbrev pub roomAfter : List Point → Bool
 roomAfter ps = ltb (length ps + 1) mostPoints
 
+-- "that may not be point 2 or 3": with one more point there are 4
+abbrev pub enough : List Point → Bool
+enough ps = leb leastPoints (length ps + 1)
+
+-- the last point that there is room for has to be equal to point 1, so its latitude has to be that of point 1
+abbrev pub mayFollow : List Point → Coordinate → Bool
+mayFollow ps c = either (roomAfter ps) (sameLatitude ps c)
+
 -- "It ends at the first later point equal to point 1, and that may not be point 2 or 3": one more point
 unfoldable pub pointed : List Point → Point → Placed
 pointed ps p =
-    pick (closes ps p) (thereIf (leb leastPoints (length ps + 1)) (outlined (ps ++ (p ∷ [])))) (onIf (roomAfter ps) (atDash (ps ++ (p ∷ []))))
+    pick (closes ps p) (thereIf (enough ps) (outlined (ps ++ (p ∷ [])))) (onIf (roomAfter ps) (atDash (ps ++ (p ∷ []))))
 
 -- "Entire: `ENTIRE FIR`, or `ENTIRE CTA` exactly when the area is a CTA."
 abbrev pub entireWord : ℕ → List ℕ
@@ -82,9 +90,8 @@ placeStep closing (atLongitudeOf latitude side) w = onIf (is "OF" w) (atLongitud
 placeStep closing (atLongitudeBound latitude side) w =
     thereIf (goodCoordinate eastWest (coordinateOf eastWest w)) (bounded latitude (record { of = side; at = coordinateOf eastWest w }))
 placeStep closing atEntire w = thereIf (same w (entireWord closing)) entirely
--- the last point that there is room for has to be equal to point 1, so its latitude has to be that of point 1
 placeStep closing (atLatitude ps) w =
-    onIf (both (goodCoordinate northSouth (coordinateOf northSouth w)) (either (roomAfter ps) (sameLatitude ps (coordinateOf northSouth w))))
+    onIf (both (goodCoordinate northSouth (coordinateOf northSouth w)) (mayFollow ps (coordinateOf northSouth w)))
     (atLongitude ps (coordinateOf northSouth w))
 placeStep closing (atLongitude ps latitude) w =
     pick (goodCoordinate eastWest (coordinateOf eastWest w)) (pointed ps (record { latitude = latitude; longitude = coordinateOf eastWest w })) nowhere

@@ -55,6 +55,10 @@ stepEnd r w = pick (same w []) (done r) dead
 abbrev pub stepUnit : Heading → List ℕ → Move
 stepUnit h w = goesIf (goodLetters 4 (lettersOf 4 w)) (atSigmet h (lettersOf 4 w))
 
+-- "A sequence has 1 to 3 characters: perhaps a letter, then digits, not all zero."
+abbrev pub isSequence : List ℕ → Bool
+isSequence w = goodSequence (sequenceOf w)
+
 -- a name's text with one more word
 abbrev pub grown : List ℕ → List ℕ → List ℕ
 grown t w = t ++ (code " " ∷ w)
@@ -135,12 +139,16 @@ stepFlight q level w = goesIf (flight (flightOf (levelOf w))) (levelled q (level
 unfoldable pub stepLevel : ToLocation → List ℕ → Move
 stepLevel q w = pick (is "TOP" w) (goes (atTop q)) (pick (is "ABV" w) (goes (atAbove q)) (goesIf (goodLevelWord (levelOf w)) (levelled q (levelOf w))))
 
+-- "in WS only, the intensity word first"
+abbrev pub forecasts : ToLevel → List ℕ → Bool
+forecasts l w = both (eqb (kindOf (areaOf l)) ws) (goodIntensity (intensityOf w))
+
 -- "Ending: either `MOV`, …, or `STNR`, …; or, in WS only, the intensity word first and then `FCST AT GGggZ` and a location"
 unfoldable pub stepEnding : ToLevel → List ℕ → Move
 stepEnding l w =
     pick (is "MOV" w) (goes (atCompass l))
     (pick (is "STNR" w) (goes (atStationary l))
-    (goesIf (both (eqb (kindOf (areaOf l)) ws) (goodIntensity (intensityOf w))) (atForecast l (intensityOf w))))
+    (goesIf (forecasts l w) (atForecast l (intensityOf w))))
 
 -- "the time being that of the end of VALID"
 abbrev pub sameTime : Time → Time → Bool
@@ -182,7 +190,7 @@ step (atCorrection d c g) w =
     (stepUnit (record { designator = d; centre = c; sent = g; correction = 0 }) w)
 step (atUnit h) w = stepUnit h w
 step (atSigmet h u) w = goesIf (is "SIGMET" w) (atSequence h u)
-step (atSequence h u) w = goesIf (goodSequence (sequenceOf w)) (atValid h u (sequenceOf w))
+step (atSequence h u) w = goesIf (isSequence w) (atValid h u (sequenceOf w))
 step (atValid h u s) w = goesIf (is "VALID" w) (atPeriod h u s)
 step (atPeriod h u s) w = goesIf (goodPeriod (periodOf w)) (atOffice h u s (periodOf w))
 step (atOffice h u s p) w =
@@ -197,7 +205,7 @@ step (atForm o) w = stepForm o w
 step (atTest o) w = pick (is "SIGMET" w) (goes (atTestText o 2 2)) (stepEnd (testOf o 1) w)
 step (atTestText o n read) w = goesIf (same w (getD (testText n) read [])) (afterTest o n (suc read))
 step (atCancelSigmet o) w = goesIf (is "SIGMET" w) (atCancelSequence o)
-step (atCancelSequence o) w = goesIf (goodSequence (sequenceOf w)) (atCancelPeriod o (sequenceOf w))
+step (atCancelSequence o) w = goesIf (isSequence w) (atCancelPeriod o (sequenceOf w))
 step (atCancelPeriod o s) w = goesIf (cancels (o .line) s (periodOf w)) (atEnd (cancellationOf o s (periodOf w .from)))
 step (atStorm o n) w =
     pick (is "TS" w) (goes (atObservation (weather o (2 * n - 1)))) (goesIf (is "TSGR" w) (atObservation (weather o (2 * n))))
