@@ -145,8 +145,8 @@ record Cancels (l : FirstLine) (s : Sequence) (p : Period) : Type 0 where
 cancels-told : (l : FirstLine) (s : Sequence) (p : Period) → cancels l s p ≡ true → Cancels l s p
 unfolding cancels
 cancels-told l s p e =
-    let t = three (goodPeriod p) (sameGroup (p .to) (l .valid .to)) _ e in
-    record { period = t .0; to = same-group-is (p .to) (l .valid .to) (t .1); other = t .2 }
+    let t = three _ _ _ e in
+    record { period = t .0; to = same-group-is _ _ (t .1); other = t .2 }
 
 pub good-cancel : (o : ToArea) (s : Sequence) (p : Period) → OpeningOk o → goodSequence s ≡ true → cancels (o .line) s p ≡ true → good (cancellationOf o s (p .from)) ≡ true
 unfolding goodForm

@@ -47,8 +47,8 @@ module _ (m : Bool) (limit : ℕ) where
   -- one more
   pub grown-name : (t w : List ℕ) → NameOk m limit t → goneOn m limit t w ≡ true → NameOk m limit (grown t w)
   grown-name t w ok e = record {
-    text = name-grow m t w (ok .text) (both-left (inName m w) (leb (length (grown t w)) limit) e);
-    fits = leb-true (length (grown t w)) limit (both-right (inName m w) (leb (length (grown t w)) limit) e);
+    text = name-grow m t w (ok .text) (both-left _ _ e);
+    fits = let short = both-right (inName m w) _ e in omega (arith, leb-true);
   }
 
   pub grown-pieces : (t w : List ℕ) → goneOn m limit t w ≡ true → pieces (grown t w) ≡ pieces t ++ (w ∷ [])

@@ -188,7 +188,7 @@ pub outline-last : (ps : List Point) (p : Point) → OutlineOk ps → goodPoint 
 unfolding allOf
 outline-last ps p ok g c r = record {
   points = all-append goodPoint ps (p ∷ []) ∙ rw (ok .points, g);
-  room = omega (arith, length-append ps (p ∷ []), ltb-true (length ps + 1) mostPoints r);
+  room = omega (arith, length-append ps (p ∷ []), ltb-true);
   isOpen = unclosed-last ps p (ok .isOpen) c;
 }
 
@@ -234,7 +234,7 @@ module _ (closing : ℕ) (w : List ℕ) where
 
       closed : (ps : List Point) → OutlineOk ps → closes ps p ≡ true → enough ps ≡ true → goodExtent (outlined (ps ++ (p ∷ []))) ≡ true
       closed [] ok c l = clash false c refl
-      closed (first ∷ ps) ok c l = outlined-good first ps p (ok .points) good (ok .room) (leb-true leastPoints (length (first ∷ ps) + 1) l) (ok .isOpen) c
+      closed (first ∷ ps) ok c l = outlined-good first ps p (ok .points) good (ok .room) (leb-true _ _ l) (ok .isOpen) c
 
 pub place-fine : (closing : ℕ) (p : Placing) (w : List ℕ) → PlacingOk p → PlaceFine closing p w (placeStep closing p w)
 unfolding placeStep extentWords
