@@ -2,13 +2,13 @@
 -- word they begin none; the number is that of the greatest part that may come next. And the converse.
 -- Assumes nothing.
 use mathlib.Core.Bool.{true}
-use mathlib.Core.List.{List, [], _∷_, _++_, map, append-nil, map-append}
+use mathlib.Core.List.{List, [], _∷_, _++_, append-nil, map-append}
 use mathlib.Core.Logic.{_↔_}
 use mathlib.Core.Logic._⊎_.{inl, inr}
 use mathlib.Core.Path.{_≡_, refl, ap, sym, subst, _∙_}
-use Prim.Native.Nat.{ℕ, suc, _≤_}
+use Prim.Native.Nat.{ℕ, _≤_}
 use native.Mathlib.Omega.{arith}
-use lib.ListN.{length}
+use lib.ListN.{length, length-map}
 use Rattle.words.specs.Words.{Word}
 use Rattle.message.specs.Records.{good}
 use Rattle.message.specs.declared.Record.{Record}
@@ -30,18 +30,11 @@ use Rattle.grammar.proofs.RunLaws.{Alive, Breaks, moveNumber, walk-dead
 use Rattle.grammar.proofs.RunLaws.Alive.{going, over}
 
 -- two lists parted at one length have the same element there
-suc-same : {m n : ℕ} → suc m ≡ suc n → m ≡ n
-suc-same e = omega arith
-
 same-there : {A : Type 0} (xs ys : List A) (x y : A) (us vs : List A) → length xs ≡ length ys → xs ++ (x ∷ us) ≡ ys ++ (y ∷ vs) → x ≡ y
 same-there [] [] x y us vs l e = cc
 same-there [] (z ∷ ys) x y us vs l e = absurd (omega arith)
 same-there (z ∷ xs) [] x y us vs l e = absurd (omega arith)
-same-there (z ∷ xs) (t ∷ ys) x y us vs l e = same-there xs ys x y us vs (suc-same l) (let q : xs ++ (x ∷ us) ≡ ys ++ (y ∷ vs) = cc in q)
-
-length-map : {A B : Type 0} (f : A → B) (xs : List A) → length (map f xs) ≡ length xs
-length-map f [] = refl
-length-map f (x ∷ xs) = ap suc (length-map f xs)
+same-there (z ∷ xs) (t ∷ ys) x y us vs l e = same-there xs ys x y us vs (omega arith) (let q : xs ++ (x ∷ us) ≡ ys ++ (y ∷ vs) = cc in q)
 
 -- facts of the section laws: what each word owes, that every state is live, and that the words of a good record are accepted
 module _
@@ -106,7 +99,7 @@ module _
         c .parts ∙ (sym (accepted-parts sound (ws ++ (c .word ∷ after)) (c .message) walked) ∙ marks-append (start) ws (c .word ∷ after))
         in
         let long : length (c .before) ≡ length (marksOf (start) ws) =
-        sym (length-map (λ (m : Marked). m .word) (c .before)) ∙ (ap length (c .words ∙ sym (marks-words (start) ws)) ∙ length-map (λ (m : Marked). m .word) (marksOf (start) ws))
+        sym (length-map (c .before) (λ (m : Marked). m .word)) ∙ (ap length (c .words ∙ sym (marks-words (start) ws)) ∙ length-map (marksOf (start) ws) (λ (m : Marked). m .word))
         in
         same-there (c .before) (marksOf (start) ws) (marked n (c .word)) (markAt (walk (start) ws) (c .word)) (c .rest) (marksOf (advance (walk (start) ws) (c .word)) after) long marks
 
