@@ -14,7 +14,7 @@ use Rattle.lists.specs.Base.{worthAfter}
 use Rattle.lists.specs.Choice.{pick}
 use Rattle.lists.specs.Lists.{allOf, same}
 use Rattle.lists.specs.Text.{bytes}
-use Rattle.lists.proofs.Choice.{by, clash, both-left, both-true, both-false-right}
+use Rattle.lists.proofs.Choice.{by, clash, both-left, both-true, both-false-right, both-three}
 use Rattle.lists.proofs.Lists.{all-at, same-is, same-refl}
 use Rattle.words.specs.Bytes.{between, allowed}
 use Rattle.words.specs.Words.{plainWord}
@@ -36,7 +36,7 @@ use Rattle.message.specs.Words.{testTexts}
 use Rattle.message.specs.declared.FirstLine.{FirstLine}
 use Rattle.message.specs.declared.Form.the-variants.{Test, Cancellation}
 use Rattle.message.proofs.Empties.{no-report-empty}
-use Rattle.message.proofs.Goodness.{three, heading-parts, line-parts, period-parts, cancellation-parts}
+use Rattle.message.proofs.Goodness.{heading-parts, line-parts, period-parts, cancellation-parts}
 use Rattle.grammar.specs.Parts.{marked}
 use Rattle.grammar.specs.Placing.{is}
 use Rattle.grammar.specs.Records.{testOf, cancellationOf}
@@ -130,7 +130,7 @@ cancel-sequence-sound o w ok = goes-if (isSequence w) (λ g. record { ok = (ok, 
 -- the same group is that group
 same-group-is : (g h : Group) → sameGroup g h ≡ true → g ≡ h
 same-group-is g h e =
-    let t = three (eqb (g .day) (h .day)) (eqb (g .hour) (h .hour)) _ e in
+    let t = both-three (eqb (g .day) (h .day)) (eqb (g .hour) (h .hour)) _ e in
     group-made (eqb-true (g .day) (h .day) (t .0)) (eqb-true (g .hour) (h .hour) (t .1)) (eqb-true (g .minute) (h .minute) (t .2))
 
 same-group-refl : (g : Group) → sameGroup g g ≡ true
@@ -145,7 +145,7 @@ record Cancels (l : FirstLine) (s : Sequence) (p : Period) : Type 0 where
 cancels-told : (l : FirstLine) (s : Sequence) (p : Period) → cancels l s p ≡ true → Cancels l s p
 unfolding cancels
 cancels-told l s p e =
-    let t = three _ _ _ e in
+    let t = both-three _ _ _ e in
     record { period = t .0; to = same-group-is _ _ (t .1); other = t .2 }
 
 pub good-cancel : (o : ToArea) (s : Sequence) (p : Period) → OpeningOk o → goodSequence s ≡ true → cancels (o .line) s p ≡ true → good (cancellationOf o s (p .from)) ≡ true

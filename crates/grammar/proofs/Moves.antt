@@ -64,11 +64,6 @@ fine-end r w g = chosen (same w []) (λ e. ends (record { isGood = g; tells = re
 
 -- Live: some words lead on to the end of a message, and the first of them belongs to the part that the state requires next.
 
-pub record Live (s : State) : Type 0 where
-  pub words : List (List ℕ)
-  pub message : Record
-  pub ends : walk (goes s) words ≡ done message
-
 pub record Next (s : State) : Type 0 where
   pub word : List ℕ
   pub rest : List (List ℕ)
@@ -76,18 +71,10 @@ pub record Next (s : State) : Type 0 where
   pub ends : walk (step s word) rest ≡ done message
   pub part : mark s word ≡ numberOf s
 
-pub next-live : (s : State) → Next s → Live s
-unfolding walk
-next-live s n = record { words = n .word ∷ n .rest; message = n .message; ends = n .ends }
-
 -- a word that leads to a state from which some words lead on
 pub next-by : (s : State) (w : List ℕ) (s′ : State) → step s w ≡ goes s′ → mark s w ≡ numberOf s → Next s′ → Next s
 unfolding walk
 next-by s w s′ e k n = record { word = w; rest = n .word ∷ n .rest; message = n .message; ends = rw e (n .ends); part = k }
-
--- a state that judges words as another one does
-pub next-as : (s s′ : State) (n : Next s′) → step s (n .word) ≡ step s′ (n .word) → mark s (n .word) ≡ numberOf s → Next s
-next-as s s′ n e k = record { word = n .word; rest = n .rest; message = n .message; ends = rw e (n .ends); part = k }
 
 pub next-end : (r : Record) → Next (atEnd r)
 unfolding walk step same

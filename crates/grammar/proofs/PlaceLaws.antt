@@ -9,7 +9,7 @@ use lib.Dec.{eqb, leb, lit<}
 use lib.ListN.{length, take, drop, getD, replicate, length-append, length-replicate}
 use lib.Seq.{take-at, drop-at}
 use borrow.Author.Tests.{leb-true, le-leb, ltb-true, eq-eqb}
-use Rattle.lists.specs.Choice.{pick, both, either}
+use Rattle.lists.specs.Choice.{pick, both}
 use Rattle.lists.specs.Lists.{allOf, indexOf, same}
 use Rattle.lists.specs.Text.{bytes}
 use Rattle.lists.proofs.Choice.{by, clash, both-left, both-right, both-true, either-left, either-right, either-cases}
@@ -28,7 +28,7 @@ use Rattle.message.specs.declared.Side.{Side}
 use Rattle.message.proofs.Empties.{all-replicate, no-points-empty, no-side-empty}
 use Rattle.message.proofs.Goodness.{point-good, side-parts}
 use Rattle.grammar.specs.Numbers.{locationPart, followingPart}
-use Rattle.grammar.specs.Placing.{enough, mayFollow, is, Placed, onIf, thereIf, sideWord, entireWord, closes, sameLatitude, roomAfter, pointed, locating, placeStep}
+use Rattle.grammar.specs.Placing.{enough, mayFollow, is, Placed, onIf, thereIf, sideWord, entireWord, closes, roomAfter, pointed, locating, placeStep}
 use Rattle.grammar.specs.Placing.Placed.{on, there, past, nowhere}
 use Rattle.grammar.specs.Records.{bounded, outlined, entirely}
 use Rattle.grammar.specs.States.{Site, Placing}

@@ -22,7 +22,7 @@ use Rattle.grammar.specs.States.Move.{goes, done}
 use Rattle.grammar.specs.States.State.{atDesignator}
 use Rattle.grammar.specs.Writes.{writeOf, written, unwritten}
 use Rattle.grammar.specs.declared.Reply.{Reply}
-use Rattle.grammar.proofs.FirstDead.{refused-there, there-refused}
+use Rattle.grammar.proofs.FirstDead.{refused-exactly}
 use Rattle.grammar.proofs.Forth.{good-accepted}
 use Rattle.grammar.proofs.Lengths.{text-fits}
 use Rattle.grammar.proofs.Marks.{accepted-good, accepted-words}
@@ -62,7 +62,7 @@ run-accepts-exactly ws r =
 -- c and d. A run is refused by a number at a place exactly where `RefusedAt` says so: the words before begin an accepted message, with this word
 -- they begin none, and the number is that of the part that the word is judged as.
 pub theorem-c-d : (ws : List Word) (number place : ℕ) → (run atDesignator ws ≡ refused number place) ↔ RefusedAt ws number place
-theorem-c-d ws n p = (refused-there sound next good-accepted ws n p, there-refused sound next good-accepted ws n p)
+theorem-c-d ws n p = refused-exactly sound next good-accepted ws n p
 
 -- d. The number is 12 exactly where the words before also make an accepted message with the `=`.
 pub theorem-d-twelve : (ws : List Word) (number place : ℕ) (r : RefusedAt ws number place) → (number ≡ 12) ↔ Whole (bytesOf (r .before) ++ ([] ∷ []))

@@ -26,6 +26,22 @@ both-right false b e = clash false e refl
 pub both-true : {a b : Bool} → a ≡ true → b ≡ true → both a b ≡ true
 both-true p q = cc
 
+-- tests that all hold
+pub both-three : (a b c : Bool) → both a (both b c) ≡ true → (a ≡ true) × (b ≡ true) × (c ≡ true)
+both-three a b c e =
+    let rest : both b c ≡ true = both-right a (both b c) e in
+    (both-left a (both b c) e, both-left b c rest, both-right b c rest)
+
+pub both-four : (a b c d : Bool) → both a (both b (both c d)) ≡ true → (a ≡ true) × (b ≡ true) × (c ≡ true) × (d ≡ true)
+both-four a b c d e =
+    let t = both-three a b (both c d) e in
+    (t .0, t .1, both-left c d (t .2), both-right c d (t .2))
+
+pub both-five : (a b c d f : Bool) → both a (both b (both c (both d f))) ≡ true → (a ≡ true) × (b ≡ true) × (c ≡ true) × (d ≡ true) × (f ≡ true)
+both-five a b c d f e =
+    let t = both-four a b c (both d f) e in
+    (t .0, t .1, t .2, both-left d f (t .3), both-right d f (t .3))
+
 pub both-unit : (b : Bool) → both b true ≡ b
 both-unit true = refl
 both-unit false = refl

@@ -9,7 +9,7 @@ use lib.ListN.{length, drop, replicate, length-drop}
 use borrow.Author.Tests.{eqb-true, not-true}
 use Rattle.lists.specs.Choice.{both}
 use Rattle.lists.specs.Lists.{allOf}
-use Rattle.lists.proofs.Choice.{clash, both-left, both-right, both-true}
+use Rattle.lists.proofs.Choice.{clash, both-left, both-right, both-true, both-four, both-five}
 use Rattle.coordinates.specs.Points.{emptyPoint, noPoint}
 use Rattle.coordinates.specs.declared.Point.{Point}
 use Rattle.coordinates.proofs.Goodness.{empty-is, empty-point-is, none-empty, no-point-empty}
@@ -29,7 +29,6 @@ use Rattle.message.specs.declared.Observation.{Observation}
 use Rattle.message.specs.declared.Report.{Report}
 use Rattle.message.specs.declared.Side.{Side}
 use Rattle.message.specs.declared.Volcano.{Volcano}
-use Rattle.message.proofs.Goodness.{four, five}
 
 -- A list whose elements all pass a test that only one passes is that one so many times.
 
@@ -129,7 +128,7 @@ no-volcano-empty = both-true no-name-empty no-point-empty
 pub empty-observation-is : (o : Observation) → emptyObservation o ≡ true → o ≡ noObservation
 unfolding emptyObservation
 empty-observation-is o e =
-    let t = four (not (o .timed)) (eqb (o .word) 0) (eqb (o .time .hour) 0) _ e in
+    let t = both-four (not (o .timed)) (eqb (o .word) 0) (eqb (o .time .hour) 0) _ e in
     λ i. record {
       word = eqb-true (o .word) 0 (t .1) i;
       timed = not-true (o .timed) (t .0) i;
@@ -147,7 +146,7 @@ pub empty-report-is : (r : Report) → emptyReport r ≡ true → r ≡ noReport
 unfolding emptyReport
 empty-report-is r e =
     let first : Bool = both (eqb (r .phenomenon) 0) (emptyVolcano (r .volcano)) in
-    let t = five first (emptyObservation (r .observation)) (emptyExtent (r .extent)) (emptyLevel (r .level)) _ e in
+    let t = both-five first (emptyObservation (r .observation)) (emptyExtent (r .extent)) (emptyLevel (r .level)) _ e in
     λ i. record {
       phenomenon = eqb-true (r .phenomenon) 0 (both-left _ _ (t .0)) i;
       volcano = empty-volcano-is (r .volcano) (both-right (eqb (r .phenomenon) 0) _ (t .0)) i;

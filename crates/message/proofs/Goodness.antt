@@ -9,7 +9,7 @@ use lib.ListN.{length, take, drop}
 use borrow.Author.Tests.{eqb-true}
 use Rattle.lists.specs.Choice.{both, either}
 use Rattle.lists.specs.Lists.{allOf}
-use Rattle.lists.proofs.Choice.{by, both-left, both-right, both-true, either-cases}
+use Rattle.lists.proofs.Choice.{by, both-left, both-right, both-true, either-cases, both-three, both-four, both-five}
 use Rattle.words.specs.Bytes.{between}
 use Rattle.words.proofs.Ranges.{between-low, between-high}
 use Rattle.figures.specs.Letters.{goodLetters}
@@ -44,23 +44,6 @@ use Rattle.message.specs.declared.Report.{Report}
 use Rattle.message.specs.declared.Side.{Side}
 use Rattle.message.specs.declared.Volcano.{Volcano}
 
--- Tests that all hold.
-
-pub three : (a b c : Bool) → both a (both b c) ≡ true → (a ≡ true) × (b ≡ true) × (c ≡ true)
-three a b c e =
-    let rest : both b c ≡ true = both-right a (both b c) e in
-    (both-left a (both b c) e, both-left b c rest, both-right b c rest)
-
-pub four : (a b c d : Bool) → both a (both b (both c d)) ≡ true → (a ≡ true) × (b ≡ true) × (c ≡ true) × (d ≡ true)
-four a b c d e =
-    let t = three a b (both c d) e in
-    (t .0, t .1, both-left c d (t .2), both-right c d (t .2))
-
-pub five : (a b c d f : Bool) → both a (both b (both c (both d f))) ≡ true → (a ≡ true) × (b ≡ true) × (c ≡ true) × (d ≡ true) × (f ≡ true)
-five a b c d f e =
-    let t = four a b c (both d f) e in
-    (t .0, t .1, t .2, both-left d f (t .3), both-right d f (t .3))
-
 -- The record.
 
 pub record GoodRecord (r : Record) : Type 0 where
@@ -72,7 +55,7 @@ pub record GoodRecord (r : Record) : Type 0 where
 pub good-parts : (r : Record) → good r ≡ true → GoodRecord r
 unfolding good
 good-parts r g =
-    let t = four (goodHeading (r .heading)) (goodLine (r .line)) (goodArea (r .area)) _ g in
+    let t = both-four (goodHeading (r .heading)) (goodLine (r .line)) (goodArea (r .area)) _ g in
     record { heading = t .0; line = t .1; area = t .2; form = t .3 }
 
 pub record GoodHeading (h : Heading) : Type 0 where
@@ -84,7 +67,7 @@ pub record GoodHeading (h : Heading) : Type 0 where
 pub heading-parts : (h : Heading) → goodHeading h ≡ true → GoodHeading h
 unfolding goodHeading
 heading-parts h g =
-    let t = four (goodDesignator (h .designator)) (goodLetters 4 (h .centre)) (goodGroup (h .sent)) _ g in
+    let t = both-four (goodDesignator (h .designator)) (goodLetters 4 (h .centre)) (goodGroup (h .sent)) _ g in
     record { designator = t .0; centre = t .1; sent = t .2; correction = t .3 }
 
 pub heading-good : (h : Heading) → GoodHeading h → goodHeading h ≡ true
@@ -100,7 +83,7 @@ pub record GoodLine (l : FirstLine) : Type 0 where
 pub line-parts : (l : FirstLine) → goodLine l ≡ true → GoodLine l
 unfolding goodLine
 line-parts l g =
-    let t = four (goodLetters 4 (l .unit)) (goodSequence (l .sequence)) (goodPeriod (l .valid)) _ g in
+    let t = both-four (goodLetters 4 (l .unit)) (goodSequence (l .sequence)) (goodPeriod (l .valid)) _ g in
     record { unit = t .0; sequence = t .1; valid = t .2; office = t .3 }
 
 pub line-good : (l : FirstLine) → GoodLine l → goodLine l ≡ true
@@ -123,7 +106,7 @@ pub record GoodArea (a : Area) : Type 0 where
 pub area-parts : (a : Area) → goodArea a ≡ true → GoodArea a
 unfolding goodArea
 area-parts a g =
-    let t = three (goodLetters 4 (a .indicator)) (goodName false nameBytes (a .name)) _ g in
+    let t = both-three (goodLetters 4 (a .indicator)) (goodName false nameBytes (a .name)) _ g in
     record { indicator = t .0; name = t .1; closing = t .2 }
 
 pub record GoodName (mountain : Bool) (limit : ℕ) (n : Name) : Type 0 where
@@ -135,7 +118,7 @@ pub record GoodName (mountain : Bool) (limit : ℕ) (n : Name) : Type 0 where
 pub name-parts : (mountain : Bool) (limit : ℕ) (n : Name) → goodName mountain limit n ≡ true → GoodName mountain limit n
 unfolding goodName
 name-parts mountain limit n g =
-    let t = three (between 1 limit (n .count)) (unusedZero n) _ g in
+    let t = both-three (between 1 limit (n .count)) (unusedZero n) _ g in
     record { some = between-low 1 limit (n .count) (t .0); fits = between-high 1 limit (n .count) (t .0); unused = t .1; text = t .2 }
 
 pub record GoodCancellation (l : FirstLine) (s : Sequence) (f : Group) : Type 0 where
@@ -145,7 +128,7 @@ pub record GoodCancellation (l : FirstLine) (s : Sequence) (f : Group) : Type 0 
 
 pub cancellation-parts : (l : FirstLine) (s : Sequence) (f : Group) → goodCancellation l s f ≡ true → GoodCancellation l s f
 cancellation-parts l s f g =
-    let t = three (goodSequence s) (goodGroup f) _ g in
+    let t = both-three (goodSequence s) (goodGroup f) _ g in
     record { sequence = t .0; from = t .1; other = t .2 }
 
 -- A report.
@@ -160,7 +143,7 @@ pub record GoodReport (kind : ℕ) (r : Report) : Type 0 where
 pub report-parts : (kind : ℕ) (r : Report) → goodReport kind r ≡ true → GoodReport kind r
 unfolding goodReport
 report-parts kind r g =
-    let t = five (goodPhenomenon kind (r .phenomenon) (r .volcano)) (goodObservation (r .observation)) (goodExtent (r .extent)) (goodLevel (r .level)) _ g in
+    let t = both-five (goodPhenomenon kind (r .phenomenon) (r .volcano)) (goodObservation (r .observation)) (goodExtent (r .extent)) (goodLevel (r .level)) _ g in
     record { phenomenon = t .0; observation = t .1; extent = t .2; level = t .3; ending = t .4 }
 
 -- the phenomena of a WS, a cloud of ash, an eruption
@@ -172,7 +155,7 @@ pub phenomenon-cases : {A : Type 0} (kind n : ℕ) (v : Volcano) → goodPhenome
 unfolding goodPhenomenon
 phenomenon-cases kind n v g weather cloud erupts =
     either-cases (both (eqb kind ws) (both (between 1 15 n) (emptyVolcano v))) _ g
-    (λ e. let t = three (eqb kind ws) (between 1 15 n) _ e in weather (eqb-true kind ws (t .0)) (t .1) (t .2))
+    (λ e. let t = both-three (eqb kind ws) (between 1 15 n) _ e in weather (eqb-true kind ws (t .0)) (t .1) (t .2))
     (λ e. let k : kind ≡ wv = eqb-true kind wv (both-left _ _ e) in
     either-cases (both (eqb n ashCloud) (emptyVolcano v)) _ (both-right (eqb kind wv) _ e)
     (λ f. cloud k (eqb-true n ashCloud (both-left _ _ f)) (both-right (eqb n ashCloud) _ f))
@@ -186,7 +169,7 @@ pub record GoodVolcano (v : Volcano) : Type 0 where
 pub volcano-parts : (v : Volcano) → goodVolcano v ≡ true → GoodVolcano v
 unfolding goodVolcano goodPoint
 volcano-parts v g =
-    let t = three (either (emptyName (v .name)) (goodName true mountainLimit (v .name))) (goodCoordinate northSouth (v .position .latitude)) _ g in
+    let t = both-three (either (emptyName (v .name)) (goodName true mountainLimit (v .name))) (goodCoordinate northSouth (v .position .latitude)) _ g in
     record { name = t .0; latitude = t .1; longitude = t .2 }
 
 pub volcano-good : (v : Volcano) → GoodVolcano v → goodVolcano v ≡ true
@@ -203,7 +186,7 @@ pub moving-parts : (kind d : ℕ) (s : Speed) (i : ℕ) (f : Extent) → goodEnd
 unfolding goodEnding
 moving-parts kind d s i f g =
     let motion : Bool = both (goodCompass d) (both (goodSpeed s) (goodIntensity i)) in
-    let t = three (goodCompass d) (goodSpeed s) (goodIntensity i) (both-left motion _ g) in
+    let t = both-three (goodCompass d) (goodSpeed s) (goodIntensity i) (both-left motion _ g) in
     record { compass = t .0; speed = t .1; intensity = t .2; forecast = both-right motion _ g }
 
 pub record GoodStationary (i : ℕ) (f : Extent) : Type 0 where
@@ -272,7 +255,7 @@ pub record GoodOutline (n : ℕ) (ps : List Point) : Type 0 where
 pub outline-parts : (n : ℕ) (ps : List Point) → goodOutline n ps ≡ true → GoodOutline n ps
 unfolding goodOutline
 outline-parts n ps g =
-    let t = five (between leastPoints mostPoints n) (eqb (length ps) mostPoints) (allOf goodPoint (take n ps)) (eqb (closingPoint ps) (n - 1)) _ g in
+    let t = both-five (between leastPoints mostPoints n) (eqb (length ps) mostPoints) (allOf goodPoint (take n ps)) (eqb (closingPoint ps) (n - 1)) _ g in
     record {
       least = between-low leastPoints mostPoints n (t .0);
       most = between-high leastPoints mostPoints n (t .0);

@@ -6,23 +6,23 @@ use lib.ListN.{length}
 use Rattle.lists.specs.Base.{worthAfter, places}
 use Rattle.lists.specs.Lists.{indexOf, allOf, same}
 use Rattle.words.specs.Words.{line}
-use Rattle.coordinates.specs.Coordinates.{goodCoordinate, emptyCoordinate, spellCoordinate, signedOf}
-use Rattle.coordinates.specs.Points.{samePoint, goodPoint, emptyPoint}
+use Rattle.coordinates.specs.Coordinates.{goodCoordinate, emptyCoordinate, spellCoordinate}
+use Rattle.coordinates.specs.Points.{emptyPoint}
 use Rattle.figures.specs.Letters.{goodLetters}
 use Rattle.groups.specs.Groups.{goodGroup, goodPeriod, goodTime, spellGroup, spellPeriod, spellTime}
-use Rattle.headings.specs.Headings.{typeWords, goodDesignator, goodCorrection, spellDesignator}
-use Rattle.levels.specs.Levels.{goodLevelWord, spellLevelWord, goodLevel, emptyLevel, levelWords}
+use Rattle.headings.specs.Headings.{typeWords, goodDesignator, spellDesignator}
+use Rattle.levels.specs.Levels.{goodLevelWord, spellLevelWord, goodLevel, levelWords}
 use Rattle.names.specs.Names.{closingWords, nameWord, pieces, nameText}
 use Rattle.headings.specs.Sequences.{goodSequence, spellSequence}
 use Rattle.motions.specs.Speeds.{unitWords, goodSpeed, spellSpeed}
 use Rattle.motions.specs.Motions.{compassWords, intensityWords}
 use Rattle.message.specs.Names.{goodName, emptyName}
-use Rattle.message.specs.Locations.{goodSide, emptySide, goodBound, noPoints, goodOutline, goodExtent, emptyExtent, boundWords, dashed, joined, extentWords}
-use Rattle.message.specs.Records.{goodHeading, goodLine, goodArea, namesItself, goodForm, good}
-use Rattle.message.specs.Reports.{phenomena, goodVolcano, emptyVolcano, goodPhenomenon, phenomenonWords, goodObservation, emptyObservation, observationWords, goodEnding, emptyEnding, endingWords, goodReport, emptyReport, reportWords}
+use Rattle.message.specs.Locations.{goodSide, emptySide, goodBound, noPoints, goodExtent, emptyExtent, boundWords, extentWords}
+use Rattle.message.specs.Records.{goodHeading, goodLine, goodArea, goodForm, good}
+use Rattle.message.specs.Reports.{phenomena, emptyVolcano, goodPhenomenon, phenomenonWords, goodObservation, observationWords, goodEnding, endingWords, goodReport, reportWords}
 use Rattle.message.specs.Empty.{noRecord}
 use Rattle.message.specs.Sample.{sample, sampleText}
-use Rattle.message.specs.Words.{headingWords, lineWords, areaWords, testTexts, formWords, bodyWords, wordsOf, textOf}
+use Rattle.message.specs.Words.{headingWords, lineWords, areaWords, formWords, bodyWords, textOf}
 
 pub sample-good : good sample ≡ true
 unfolding
