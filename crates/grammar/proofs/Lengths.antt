@@ -371,10 +371,10 @@ text-length r =
     rw (length-append h, length-append l, length-append b)
     (omega (arith, line-size (headingWords (r .heading)), line-size (lineWords (r .line)), line-size (bodyWords r)))
 
--- "24 text over 2,048 bytes" is never given with the limits of today
-pub text-fits : (r : Record) → good r ≡ true → length (textOf r) ≤ 2048
+-- the longest words of every section, each with its space
+pub text-short : (r : Record) → good r ≡ true → length (textOf r) ≤ 478
 unfolding bodyWords
-text-fits r g =
+text-short r g =
     let parts = good-parts r g in
     omega (
       arith,
@@ -385,6 +385,10 @@ text-fits r g =
       area-size (r .area) (parts .area),
       form-size (r .heading .designator .kind) r (r .form) (parts .form),
     )
+
+-- "24 text over 2,048 bytes" is never given with the limits of today
+pub text-fits : (r : Record) → good r ≡ true → length (textOf r) ≤ 2048
+text-fits r g = omega (arith, text-short r g)
 
 pub never-24 : (r : Record) (buffer : List ℕ) → writeOf r buffer .number ≡ 24 → ⊥
 unfolding writeOf
