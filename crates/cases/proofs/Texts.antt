@@ -1,9 +1,11 @@
--- The records of the cases, given field by field, are good, and the texts that they were read from are their canonical texts.
+-- The records of the cases, given field by field, are good, and the texts that they were read from are their canonical texts. And the writer, on
+-- the sample and on the empty record.
 -- Assumes nothing.
 use mathlib.Core.Bool.{Bool, true}
-use mathlib.Core.List.{List}
+use mathlib.Core.List.{List, [], _∷_, _++_}
 use mathlib.Core.Path.{_≡_, refl}
 use Prim.Native.Nat.{ℕ}
+use lib.ListN.{replicate}
 use Rattle.lists.specs.Base.{worthAfter, places}
 use Rattle.lists.specs.Lists.{indexOf, allOf, same}
 use Rattle.words.specs.Words.{line}
@@ -21,9 +23,11 @@ use Rattle.message.specs.Locations.{goodSide, emptySide, goodBound, noPoints, g
 use Rattle.message.specs.Names.{goodName, emptyName}
 use Rattle.message.specs.Records.{goodHeading, goodLine, goodArea, namesItself, goodForm, good}
 use Rattle.message.specs.Reports.{phenomena, goodVolcano, emptyVolcano, goodPhenomenon, phenomenonWords, goodObservation, emptyObservation, observationWords, goodEnding, emptyEnding, endingWords, goodReport, emptyReport, reportWords}
-use Rattle.message.specs.Sample.{sample}
+use Rattle.message.specs.Empty.{noRecord}
+use Rattle.message.specs.Sample.{sample, sampleText}
 use Rattle.message.specs.Words.{headingWords, lineWords, areaWords, testTexts, formWords, bodyWords, textOf}
 use Rattle.message.specs.declared.Record.{Record}
+use Rattle.grammar.specs.Writes.{writeOf}
 use Rattle.cases.specs.Cases.{reporting, eastOf, E180, saying, laterSaying, located, meridianOutline, sevenOutline, testing, testingFifty, cancelling, eruptionText, eruptionRecord, correctedText, correctedRecord}
 
 -- the record is good, and that is its text
@@ -34,7 +38,7 @@ pub record Shown (r : Record) (text : List ℕ) : Type 0 where
 -- a record's goodness and its text with every definition open that they come to
 opened : Record → Bool
 unfolding
-    good sample goodHeading goodLine goodArea namesItself goodForm goodReport emptyReport goodDesignator goodCorrection goodLetters goodGroup goodPeriod goodSequence goodName goodPhenomenon goodVolcano goodPoint goodObservation emptyObservation goodExtent goodOutline goodLevel emptyLevel goodEnding emptyEnding emptyVolcano emptyName emptyPoint emptyCoordinate emptySide goodBound goodSide goodCoordinate noPoints emptyExtent goodLevelWord goodSpeed unitWords intensityWords closingWords typeWords worthAfter places allOf nameText pieces nameWord indexOf same goodTime compassWords samePoint signedOf
+    writeOf sampleText good sample goodHeading goodLine goodArea namesItself goodForm goodReport emptyReport goodDesignator goodCorrection goodLetters goodGroup goodPeriod goodSequence goodName goodPhenomenon goodVolcano goodPoint goodObservation emptyObservation goodExtent goodOutline goodLevel emptyLevel goodEnding emptyEnding emptyVolcano emptyName emptyPoint emptyCoordinate emptySide goodBound goodSide goodCoordinate noPoints emptyExtent goodLevelWord goodSpeed unitWords intensityWords closingWords typeWords worthAfter places allOf nameText pieces nameWord indexOf same goodTime compassWords samePoint signedOf
     textOf headingWords lineWords bodyWords areaWords testTexts formWords reportWords phenomenonWords observationWords extentWords levelWords endingWords spellDesignator spellGroup spellPeriod spellSequence spellTime spellLevelWord spellSpeed spellCoordinate boundWords dashed joined phenomena line
 opened r = good r
 
@@ -77,3 +81,24 @@ meridian-text = record { isGood = refl; written = refl }
 pub seven-text : Shown (located sevenOutline) (reporting "WI N10 E010 - N11 E010 - N12 E010 - N13 E010 - N14 E010 - N15 E010 - N10 E010 SFC/FL100 MOV E 20KT WKN=")
 unfolding opened
 seven-text = record { isGood = refl; written = refl }
+
+-- 01, "Writer: 13 bad record; 24 text over 2,048 bytes; 14 buffer shorter than what would be written. Count 0, buffer untouched. On success
+-- … the bytes past the count stay." 24 cannot happen (`never-24`, crate grammar).
+
+-- the empty record is a bad one, and 13 goes before 14
+pub empty-13 : writeOf noRecord (7 ∷ []) ≡ record { number = 13; count = 0; buffer = 7 ∷ [] }
+unfolding opened
+empty-13 = refl
+
+-- the sample has 130 bytes
+pub sample-14 : writeOf sample (replicate 129 7) ≡ record { number = 14; count = 0; buffer = replicate 129 7 }
+unfolding opened
+sample-14 = refl
+
+pub sample-fits : writeOf sample (replicate 130 7) ≡ record { number = 0; count = 130; buffer = sampleText }
+unfolding opened
+sample-fits = refl
+
+pub sample-room : writeOf sample (replicate 132 7) ≡ record { number = 0; count = 130; buffer = sampleText ++ (7 ∷ 7 ∷ []) }
+unfolding opened
+sample-room = refl

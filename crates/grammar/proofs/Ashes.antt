@@ -34,7 +34,7 @@ use Rattle.grammar.specs.States.{ToArea, ToPhenomenon}
 use Rattle.grammar.specs.States.Move.{goes}
 use Rattle.grammar.specs.States.State.{atForm, atAsh, atEruption, atMountain, atMoreMountain, atPosition, atPositionLongitude, atVolcanoAsh, atVolcanoCloud, atObservation}
 use Rattle.grammar.specs.Steps.{begun, goneOn, grown, weather, kindOf, stepForm, step}
-use Rattle.grammar.proofs.Told.{told, toldArea, mountainWords, onward-append, onward-last}
+use Rattle.grammar.proofs.Told.{told, toldArea, onward-append, onward-last}
 use Rattle.grammar.proofs.Invariant.{AshOk, NameOk, MountainOk, PhenomenonOk, Ok}
 use Rattle.grammar.proofs.Moves.{Fine, chosen, goes-if, Next, next-by, walk-step}
 use Rattle.grammar.proofs.Moves.Fine.{leads}
@@ -58,7 +58,7 @@ ash-sound o w ok =
 no-mountain : MountainOk noName
 no-mountain = either-left _ no-name-empty
 
-no-mountain-words : mountainWords noName ≡ []
+no-mountain-words : mountWords noName ≡ []
 no-mountain-words = rw no-name-empty
 
 pub eruption-sound : (o : ToArea) (w : List ℕ) → Ok (atEruption o) → Fine (atEruption o) w (step (atEruption o) w)
@@ -80,7 +80,7 @@ toMountain = bytes "VA" ∷ bytes "ERUPTION" ∷ bytes "MT" ∷ []
 mountain-ok : (t : List ℕ) → NameOk true mountainLimit t → MountainOk (nameOf t)
 mountain-ok t ok = either-right (emptyName (nameOf t)) (name-of-good true mountainLimit t ok (lit< tt))
 
-mountain-words : (t : List ℕ) → NameOk true mountainLimit t → mountainWords (nameOf t) ≡ bytes "MT" ∷ pieces t
+mountain-words : (t : List ℕ) → NameOk true mountainLimit t → mountWords (nameOf t) ≡ bytes "MT" ∷ pieces t
 mountain-words t ok = rw (name-of-some true mountainLimit t ok, name-words-of t)
 
 pub more-mountain-sound : (o : ToArea) (t w : List ℕ) → Ok (atMoreMountain o t) → Fine (atMoreMountain o t) w (step (atMoreMountain o t) w)
@@ -130,7 +130,7 @@ volcano-cloud-sound o v w ok =
       ok = eruption-ok o v (ok .0) (ok .1);
       tells =
           rw (same-is w (bytes "CLD") g)
-          (onward-append 7 (bytes "VA" ∷ bytes "ERUPTION" ∷ mountWords v) (bytes "PSN" ∷ (pointWords (v .position) ++ (bytes "VA" ∷ bytes "CLD" ∷ []))) (toldArea o));
+          (onward-append 7 (bytes "VA" ∷ bytes "ERUPTION" ∷ mountWords (v .name)) (bytes "PSN" ∷ (pointWords (v .position) ++ (bytes "VA" ∷ bytes "CLD" ∷ []))) (toldArea o));
     })
 
 -- Live.
@@ -193,14 +193,14 @@ mountain-first o w g = rw g
 
 -- perhaps `MT` and a name, and `PSN`
 forth-no-mountain : (o : ToArea) (n : Name) (ws : List (List ℕ)) → emptyName n ≡ true
-    → walk (goes (atEruption o)) (mountainWords n ++ (bytes "PSN" ∷ ws)) ≡ walk (goes (atPosition o n)) ws
+    → walk (goes (atEruption o)) (mountWords n ++ (bytes "PSN" ∷ ws)) ≡ walk (goes (atPosition o n)) ws
 unfolding step same
 forth-no-mountain o n ws e =
     let none : n ≡ noName = empty-name-is n e in
     rw (none, no-mountain-words) (walk-step (atEruption o) (atPosition o noName) (bytes "PSN") ws refl)
 
 forth-some-mountain : (o : ToArea) (n : Name) (ws : List (List ℕ)) → goodName true mountainLimit n ≡ true
-    → walk (goes (atEruption o)) (mountainWords n ++ (bytes "PSN" ∷ ws)) ≡ walk (goes (atPosition o n)) ws
+    → walk (goes (atEruption o)) (mountWords n ++ (bytes "PSN" ∷ ws)) ≡ walk (goes (atPosition o n)) ws
 unfolding step same
 forth-some-mountain o n ws g =
     let t : List ℕ = take (n .count) (n .bytes) in
@@ -221,7 +221,7 @@ module _ (v : Volcano) (g : goodVolcano v ≡ true) where
   unfolding step
   longitude-step o = let k = volcano-parts v g .longitude in rw (longitude-reads .forth (v .position .longitude) k, k)
 
-  forth-mountain : (o : ToArea) (ws : List (List ℕ)) → walk (goes (atEruption o)) (mountWords v ++ (bytes "PSN" ∷ ws)) ≡ walk (goes (atPosition o (v .name))) ws
+  forth-mountain : (o : ToArea) (ws : List (List ℕ)) → walk (goes (atEruption o)) (mountWords (v .name) ++ (bytes "PSN" ∷ ws)) ≡ walk (goes (atPosition o (v .name))) ws
   forth-mountain o ws =
       either-cases (emptyName (v .name)) (goodName true mountainLimit (v .name)) (volcano-parts v g .name) (forth-no-mountain o (v .name) ws) (forth-some-mountain o (v .name) ws)
 
@@ -244,10 +244,10 @@ module _ (v : Volcano) (g : goodVolcano v ≡ true) where
   unfolding step same phenomenonWords phenomena
   forth-eruption o ws k =
       let point : List (List ℕ) = pointWords (v .position) ++ (bytes "VA" ∷ bytes "CLD" ∷ []) in
-      let rest : List (List ℕ) = (mountWords v ++ (bytes "PSN" ∷ point)) ++ ws in
+      let rest : List (List ℕ) = (mountWords (v .name) ++ (bytes "PSN" ∷ point)) ++ ws in
       walk-step (atForm o) (atAsh o) (bytes "VA") (bytes "ERUPTION" ∷ rest) (form-step o k)
       ∙ (walk-step (atAsh o) (atEruption o) (bytes "ERUPTION") rest refl
-      ∙ (ap (walk (goes (atEruption o))) (append-assoc (mountWords v) (bytes "PSN" ∷ point) ws)
+      ∙ (ap (walk (goes (atEruption o))) (append-assoc (mountWords (v .name)) (bytes "PSN" ∷ point) ws)
       ∙ (forth-mountain o (point ++ ws) ∙ forth-position o ws)))
 
 pub forth-cloud : (o : ToArea) (ws : List (List ℕ)) → kindOf o ≡ wv
@@ -258,7 +258,7 @@ forth-cloud o ws k =
 
 -- Plain.
 
-plain-mountain : (n : Name) → MountainOk n → allOf plainWord (mountainWords n) ≡ true
+plain-mountain : (n : Name) → MountainOk n → allOf plainWord (mountWords n) ≡ true
 unfolding allOf allowed
 plain-mountain n ok =
     either-cases (emptyName n) (goodName true mountainLimit n) ok (λ e. rw e)
@@ -268,7 +268,7 @@ pub plain-volcano : (v : Volcano) → goodVolcano v ≡ true → allOf plainWord
 unfolding phenomenonWords phenomena allOf allowed
 plain-volcano v g =
     let parts = volcano-parts v g in
-    all-append plainWord (mountWords v) (bytes "PSN" ∷ (pointWords (v .position) ++ (bytes "VA" ∷ bytes "CLD" ∷ [])))
+    all-append plainWord (mountWords (v .name)) (bytes "PSN" ∷ (pointWords (v .position) ++ (bytes "VA" ∷ bytes "CLD" ∷ [])))
     ∙ both-true (plain-mountain (v .name) (parts .name))
     (both-true (latitude-plain (v .position .latitude) (parts .latitude))
     (both-true (longitude-plain (v .position .longitude) (parts .longitude)) refl))

@@ -40,7 +40,7 @@ use Rattle.motions.specs.Speeds.{unitWords, spellSpeed}
 use Rattle.motions.specs.declared.Speed.{Speed}
 use Rattle.names.specs.Names.{closingWords, onto, pieces}
 use Rattle.names.proofs.NameLaws.{pieces-some}
-use Rattle.message.specs.Limits.{nameBytes, mountainLimit, cta, eruption}
+use Rattle.message.specs.Limits.{mostPoints, nameBytes, mountainLimit, cta, eruption}
 use Rattle.message.specs.Locations.{emptySide, locatedBy, goodExtent, sideWords, boundWords, dashed, joined, locationWords, extentWords}
 use Rattle.message.specs.Names.{goodName, emptyName, nameWords}
 use Rattle.message.specs.Records.{goodArea, goodForm, good}
@@ -217,17 +217,21 @@ unfolding joined
 joined-size [] = zero-le
 joined-size (p ∷ ps) = omega (arith, size-append (pointWords p) (dashed ps), point-size p, dashed-size ps)
 
-located-size : (closing : ℕ) (l : Location) (ps : List Point) → locatedBy l ps ≡ true → size (locationWords closing l ps) ≤ 108
+-- what a location takes at most: `WI` and its points, each with its spaces and its `-`
+abbrev pub locationMost : ℕ
+locationMost = 3 + mostPoints * 15
+
+located-size : (closing : ℕ) (l : Location) (ps : List Point) → locatedBy l ps ≡ true → size (locationWords closing l ps) ≤ locationMost
 located-size closing Nowhere ps g = zero-le
 located-size closing (Bounded b) ps g = omega (arith, bound-size b)
 located-size closing (Outline n) ps g = omega (arith, joined-size (take n ps), length-take n ps, outline-parts n ps g .most)
 located-size closing Entire ps g = go (eqb closing cta)
   where
-    go : (b : Bool) → size (bytes "ENTIRE" ∷ pick b (bytes "CTA") (bytes "FIR") ∷ []) ≤ 108
+    go : (b : Bool) → size (bytes "ENTIRE" ∷ pick b (bytes "CTA") (bytes "FIR") ∷ []) ≤ locationMost
     go true = lit≤ tt
     go false = lit≤ tt
 
-extent-size : (closing : ℕ) (e : Extent) → goodExtent e ≡ true → size (extentWords closing e) ≤ 108
+extent-size : (closing : ℕ) (e : Extent) → goodExtent e ≡ true → size (extentWords closing e) ≤ locationMost
 unfolding extentWords goodExtent
 extent-size closing e g = located-size closing (e .location) (e .points) g
 
@@ -252,9 +256,9 @@ phenomena-size i = at-most size 15 phenomena [] zero-le refl i
 volcano-size : (v : Volcano) → v .name .count ≤ mountainLimit → size (volcanoWords v) ≤ 58
 volcano-size v h =
     let more : List (List ℕ) = pointWords (v .position) ++ (bytes "VA" ∷ bytes "CLD" ∷ []) in
-    let mount : size (mountWords v) ≤ 34 =
+    let mount : size (mountWords (v .name)) ≤ 34 =
     size-pick (emptyName (v .name)) [] (bytes "MT" ∷ nameWords (v .name)) 34 zero-le (omega (arith, name-size (v .name))) in
-    rw (size-append (mountWords v) (bytes "PSN" ∷ more), size-append (pointWords (v .position)) (bytes "VA" ∷ bytes "CLD" ∷ []))
+    rw (size-append (mountWords (v .name)) (bytes "PSN" ∷ more), size-append (pointWords (v .position)) (bytes "VA" ∷ bytes "CLD" ∷ []))
     (omega (arith, point-size (v .position)))
 
 phenomenon-size : (kind n : ℕ) (v : Volcano) → goodPhenomenon kind n v ≡ true → size (phenomenonWords n v) ≤ 73
@@ -317,7 +321,7 @@ speed-most s =
     rw (length-append (inFigures 2 (s .value)), length-inFigures 2 (s .value))
     (omega (arith, numbered-most 3 1 unitWords (s .unit) refl))
 
-ending-size : (kind : ℕ) (end : Time) (closing : ℕ) (e : Ending) (f : Extent) → goodEnding kind e f ≡ true → size (endingWords end closing e f) ≤ 128
+ending-size : (kind : ℕ) (end : Time) (closing : ℕ) (e : Ending) (f : Extent) → goodEnding kind e f ≡ true → size (endingWords end closing e f) ≤ 20 + locationMost
 unfolding endingWords
 ending-size kind end closing NoEnding f g = zero-le
 ending-size kind end closing (Moving d s i) f g = omega (arith, compass-most d, speed-most s, intensity-most i)
@@ -325,7 +329,7 @@ ending-size kind end closing (Stationary i) f g = omega (arith, intensity-most i
 ending-size kind end closing (Forecast i) f g =
     omega (arith, intensity-most i, length-time end, extent-size closing f (forecast-parts kind i f g .forecast))
 
-report-size : (kind : ℕ) (end : Time) (closing : ℕ) (r : Report) → goodReport kind r ≡ true → size (reportWords end closing r) ≤ 343
+report-size : (kind : ℕ) (end : Time) (closing : ℕ) (r : Report) → goodReport kind r ≡ true → size (reportWords end closing r) ≤ 127 + 2 * locationMost
 unfolding reportWords
 report-size kind end closing r g =
     let parts = report-parts kind r g in
@@ -350,7 +354,7 @@ tests-size : (i : ℕ) → size (getD testTexts i []) ≤ 46
 unfolding testTexts allOf
 tests-size i = at-most size 46 testTexts [] zero-le refl i
 
-form-size : (kind : ℕ) (r : Record) (f : Form) → goodForm kind (r .line) (r .report) f ≡ true → size (formWords r f) ≤ 343
+form-size : (kind : ℕ) (r : Record) (f : Form) → goodForm kind (r .line) (r .report) f ≡ true → size (formWords r f) ≤ 127 + 2 * locationMost
 unfolding formWords goodForm
 form-size kind r NoForm g = zero-le
 form-size kind r (Test n) g = omega (arith, tests-size (n - 1))
@@ -371,8 +375,8 @@ text-length r =
     rw (length-append h, length-append l, length-append b)
     (omega (arith, line-size (headingWords (r .heading)), line-size (lineWords (r .line)), line-size (bodyWords r)))
 
--- the longest words of every section, each with its space
-pub text-short : (r : Record) → good r ≡ true → length (textOf r) ≤ 478
+-- the longest words of every section, each with its space, and two locations: 478 bytes with outlines of 7 points
+pub text-short : (r : Record) → good r ≡ true → length (textOf r) ≤ 262 + 2 * locationMost
 unfolding bodyWords
 text-short r g =
     let parts = good-parts r g in

@@ -22,8 +22,7 @@ use Rattle.motions.specs.Motions.{spellCompass, spellIntensity}
 use Rattle.motions.specs.Speeds.{spellSpeed}
 use Rattle.names.specs.Names.{pieces}
 use Rattle.message.specs.Locations.{emptySide, sideWords, joined, extentWords}
-use Rattle.message.specs.Names.{emptyName, nameWords}
-use Rattle.message.specs.Reports.{noReport, phenomenonWords, observationWords, endingWords}
+use Rattle.message.specs.Reports.{noReport, mountWords, phenomenonWords, observationWords, endingWords}
 use Rattle.message.specs.Words.{correctionWords, headingWords, lineWords, areaWords, formWords}
 use Rattle.message.specs.declared.Ending.{Ending}
 use Rattle.message.specs.declared.Extent.{Extent}
@@ -133,11 +132,8 @@ abbrev pub toldSequence : Heading → ℕ → Sequence → List Marked
 toldSequence h u s = marked 5 (spellSequence s) ∷ marked 5 (bytes "SIGMET") ∷ toldUnit h u
 
 -- up to the mountain's name, and up to the point
-abbrev pub mountainWords : Name → List (List ℕ)
-mountainWords n = pick (emptyName n) [] (bytes "MT" ∷ nameWords n)
-
 abbrev pub toldMountain : ToArea → Name → List Marked
-toldMountain o n = onward 7 (bytes "VA" ∷ bytes "ERUPTION" ∷ mountainWords n) (toldArea o)
+toldMountain o n = onward 7 (bytes "VA" ∷ bytes "ERUPTION" ∷ mountWords n) (toldArea o)
 
 abbrev pub toldVolcano : ToArea → Volcano → List Marked
 toldVolcano o v = onward 7 (bytes "PSN" ∷ pointWords (v .position)) (toldMountain o (v .name))

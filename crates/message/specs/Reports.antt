@@ -22,6 +22,7 @@ use Rattle.message.specs.declared.Ending.{Ending}
 use Rattle.message.specs.declared.Ending.the-variants.{NoEnding, Moving, Stationary, Forecast}
 use Rattle.message.specs.declared.Observation.{Observation}
 use Rattle.message.specs.declared.Extent.{Extent}
+use Rattle.message.specs.declared.Name.{Name}
 use Rattle.message.specs.declared.Report.{Report}
 use Rattle.message.specs.declared.Volcano.{Volcano}
 
@@ -64,11 +65,12 @@ goodPhenomenon kind n v =
     either (both (eqb kind ws) (both (between 1 15 n) (emptyVolcano v)))
     (both (eqb kind wv) (either (both (eqb n ashCloud) (emptyVolcano v)) (both (eqb n eruption) (goodVolcano v))))
 
-abbrev pub mountWords : Volcano → List (List ℕ)
-mountWords v = pick (emptyName (v .name)) [] (bytes "MT" ∷ nameWords (v .name))
+-- "perhaps `MT` and a name"
+abbrev pub mountWords : Name → List (List ℕ)
+mountWords n = pick (emptyName n) [] (bytes "MT" ∷ nameWords n)
 
 abbrev pub volcanoWords : Volcano → List (List ℕ)
-volcanoWords v = mountWords v ++ (bytes "PSN" ∷ (pointWords (v .position) ++ (bytes "VA" ∷ bytes "CLD" ∷ [])))
+volcanoWords v = mountWords (v .name) ++ (bytes "PSN" ∷ (pointWords (v .position) ++ (bytes "VA" ∷ bytes "CLD" ∷ [])))
 
 unfoldable pub phenomenonWords : ℕ → Volcano → List (List ℕ)
 phenomenonWords n v = getD phenomena (n - 1) [] ++ pick (eqb n eruption) (volcanoWords v) []
