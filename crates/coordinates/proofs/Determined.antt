@@ -20,6 +20,8 @@ use Rattle.coordinates.proofs.good_point.Kinds as good-point-kinds
 use Rattle.coordinates.proofs.good_point.Reads as good-point-reads
 use Rattle.coordinates.proofs.empty_point.Kinds as empty-point-kinds
 use Rattle.coordinates.proofs.empty_point.Reads as empty-point-reads
+use Rattle.coordinates.proofs.same_latitude.Kinds as same-latitude-kinds
+use Rattle.coordinates.proofs.same_latitude.Reads as same-latitude-reads
 
 pub latitude-determined : Determines 1 latitude-kinds.ps latitude-kinds.r latitude-reads.Learnt
 latitude-determined κs a r s x y p q = determined p q
@@ -47,3 +49,6 @@ good-point-determined κs a r s x y p q = determined p q
 
 pub empty-point-determined : Determines 0 empty-point-kinds.ps empty-point-kinds.r empty-point-reads.Learnt
 empty-point-determined κs a r s x y p q = determined p q
+
+pub same-latitude-determined : Determines 0 same-latitude-kinds.ps same-latitude-kinds.r same-latitude-reads.Learnt
+same-latitude-determined κs a r s x y p q = determined p q

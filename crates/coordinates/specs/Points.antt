@@ -8,11 +8,16 @@ use lib.Dec.{eqb}
 use lib.IntN.{ℤ, pos, negsuc, natAbs, _-ℤ_}
 use Rattle.lists.specs.Choice.{both, either}
 use Rattle.coordinates.specs.Coordinates.{northSouth, eastWest, goodCoordinate, emptyCoordinate, noCoordinate, spellCoordinate, signedOf}
+use Rattle.coordinates.specs.declared.Coordinate.{Coordinate}
 use Rattle.coordinates.specs.declared.Point.{Point}
 
 -- how far apart two signed values are
 abbrev pub apart : ℤ → ℤ → ℕ
 apart a b = natAbs (a -ℤ b)
+
+-- two latitudes are equal
+abbrev pub sameValue : Coordinate → Coordinate → Bool
+sameValue c d = eqb (apart (signedOf c) (signedOf d)) 0
 
 unfoldable pub samePoint : Point → Point → Bool
 samePoint p q =

@@ -1,7 +1,7 @@
 // Latitudes, longitudes and points: read from a word, judged, and valued in signed minutes.
 ghost use mathlib.Core.Path.{_≡_};
 ghost use Rattle.coordinates.specs.Coordinates.{northSouth, eastWest, coordinateOf, goodCoordinate, emptyCoordinate, signedOf};
-ghost use Rattle.coordinates.specs.Points.{apart, samePoint, goodPoint, emptyPoint};
+ghost use Rattle.coordinates.specs.Points.{apart, sameValue, samePoint, goodPoint, emptyPoint};
 use lists::both;
 use lists::either;
 
@@ -77,6 +77,13 @@ fn apart_by(c: Coordinate, d: Coordinate) -> u32
     } else {
         far as u32
     }
+}
+
+// Have two latitudes the same value? N00 and S0000 have.
+pub fn same_latitude(c: Coordinate, d: Coordinate) -> bool
+    ensures { λ r. ⌜ r ≡ sameValue c d ⌝ }
+{
+    apart_by(c, d) == 0
 }
 
 // "Points are equal when their latitudes are equal and their longitudes differ by 0 or 21,600."

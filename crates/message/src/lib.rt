@@ -243,13 +243,15 @@ fn same_sequence(s: Sequence, t: Sequence) -> bool
     )
 }
 
-fn same_group(g: Group, h: Group) -> bool
+// Have two groups the same day, hour and minute?
+pub fn same_group(g: Group, h: Group) -> bool
     ensures { λ r. ⌜ r ≡ sameGroup g h ⌝ }
 {
     both(g.day == h.day, both(g.hour == h.hour, g.minute == h.minute))
 }
 
-fn names_itself(l: FirstLine, s: Sequence, from: Group) -> bool
+// Would a cancellation of that sequence and start name the message itself?
+pub fn names_itself(l: FirstLine, s: Sequence, from: Group) -> bool
     ensures { λ r. ⌜ r ≡ namesItself l s from ⌝ }
 {
     let sequence = l.sequence;

@@ -1,0 +1,5 @@
+pub mod Going
+pub mod Chains
+pub mod KindLaws
+pub mod Tells
+pub mod FixedWords

@@ -1,0 +1,22 @@
+use borrow.Author.Needs.{needs}
+use Rattle.reader.proofs.empties.no_volcano.Statement.{statement}
+use Rattle.reader.proofs.empties.no_volcano.Tie as tie
+use Rattle.reader.proofs.empties.no_volcano.Reads as reads
+use Rattle.reader.proofs.empties.no_volcano.Lts as lts
+use Rattle.reader.proofs.empties.no_name.Reads as no-name-reads
+use Rattle.reader.proofs.empties.no_point.Reads as no-point-reads
+
+-- src/empties.rt:58:9
+no-name-requires : tie.Need-no-name-requires
+no-name-requires c κs = search needs
+
+-- src/empties.rt:59:9
+no-point-requires : tie.Need-no-point-requires
+no-point-requires c κs = search needs
+
+-- src/empties.rt:55:1
+returns : tie.Need-returns
+returns c = ?
+
+pub no-volcano-spec : {M : Type 1} → statement M
+no-volcano-spec = tie.close (tie.spec no-name-requires no-point-requires returns)

@@ -1,0 +1,36 @@
+use borrow.Author.Needs.{needs}
+use Rattle.reader.proofs.KindLaws.{code-at-is}
+use Rattle.reader.proofs.fixed.code_at.Statement.{statement}
+use Rattle.reader.proofs.fixed.code_at.Tie as tie
+use Rattle.reader.proofs.fixed.code_at.Reads as reads
+use Rattle.reader.proofs.fixed.code_at.Lts as lts
+use Rattle.figures.proofs.code.Reads as code-reads
+use Rattle.reader.proofs.fixed.word.Reads as word-reads
+
+-- src/kinds.rt:47:9
+word-requires : tie.Need-word-requires
+word-requires c κs = search needs
+
+-- src/kinds.rt:50:21
+sub-code : tie.Need-sub-code
+sub-code c = search needs
+
+-- src/kinds.rt:50:21
+part-code-start : tie.Need-part-code-start
+part-code-start c = search needs
+
+-- src/kinds.rt:50:21
+part-code-end : tie.Need-part-code-end
+part-code-end c = search needs
+
+-- src/kinds.rt:50:9
+code-requires : tie.Need-code-requires
+code-requires c κs = search needs
+
+-- src/kinds.rt:43:1
+returns : tie.Need-returns
+returns c = code-at-is (c .before .before .word .ensures) (c .code .ensures)
+
+pub code-at-spec : {M : Type 1} → statement M
+code-at-spec =
+    tie.close (tie.spec word-requires sub-code part-code-start part-code-end code-requires returns)

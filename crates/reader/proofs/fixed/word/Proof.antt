@@ -1,0 +1,18 @@
+use borrow.Author.Needs.{needs}
+use Rattle.reader.proofs.Going.{word-at-within}
+use Rattle.reader.proofs.fixed.word.Statement.{statement}
+use Rattle.reader.proofs.fixed.word.Tie as tie
+use Rattle.reader.proofs.fixed.word.Reads as reads
+use Rattle.reader.proofs.fixed.word.Lts as lts
+use Rattle.words.proofs.word_at.Reads as word-at-reads
+
+-- src/kinds.rt:40:5
+word-at-requires : tie.Need-word-at-requires
+word-at-requires c κs = search needs
+
+-- src/kinds.rt:36:1
+returns : tie.Need-returns
+returns c = search (word-at-within, needs)
+
+pub word-spec : {M : Type 1} → statement M
+word-spec = tie.close (tie.spec word-at-requires returns)

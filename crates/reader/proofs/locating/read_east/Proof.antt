@@ -1,0 +1,44 @@
+use borrow.Author.Needs.{needs}
+use Rattle.reader.proofs.locating.read_east.Statement.{statement}
+use Rattle.reader.proofs.locating.read_east.Tie as tie
+use Rattle.reader.proofs.locating.read_east.Reads as reads
+use Rattle.reader.proofs.locating.read_east.Lts as lts
+use Rattle.reader.proofs.empties.no_extent.Reads as no-extent-reads
+use Rattle.reader.proofs.fixed.fixed_at.Reads as fixed-at-reads
+use Rattle.reader.proofs.kinds.longitude_at.Reads as longitude-at-reads
+use Rattle.reader.proofs.locating.bounded.Reads as bounded-reads
+
+-- src/locating.rt:60:9
+fixed-at-requires : tie.Need-fixed-at-requires
+fixed-at-requires c κs = search needs
+
+-- src/locating.rt:62:13
+no-extent-requires : tie.Need-no-extent-requires
+no-extent-requires c κs = search needs
+
+-- src/locating.rt:63:9
+returns : tie.Need-returns
+returns c = ?
+
+-- src/locating.rt:69:9
+longitude-at-requires : tie.Need-longitude-at-requires
+longitude-at-requires c κs = search needs
+
+-- src/locating.rt:72:9
+bounded-requires : tie.Need-bounded-requires
+bounded-requires c κs = search needs
+
+-- src/locating.rt:56:1
+returns-2 : tie.Need-returns-2
+returns-2 c = ?
+
+pub read-east-spec : {M : Type 1} → statement M
+read-east-spec =
+    tie.close
+    (tie.spec
+    fixed-at-requires
+    no-extent-requires
+    returns
+    longitude-at-requires
+    bounded-requires
+    returns-2)

@@ -1,0 +1,54 @@
+use borrow.Author.Needs.{needs}
+use Rattle.reader.proofs.locating.read_north.Statement.{statement}
+use Rattle.reader.proofs.locating.read_north.Tie as tie
+use Rattle.reader.proofs.locating.read_north.Reads as reads
+use Rattle.reader.proofs.locating.read_north.Lts as lts
+use Rattle.reader.proofs.empties.no_extent.Reads as no-extent-reads
+use Rattle.reader.proofs.fixed.fixed_at.Reads as fixed-at-reads
+use Rattle.reader.proofs.kinds.latitude_at.Reads as latitude-at-reads
+use Rattle.reader.proofs.locating.read_after_north.Reads as read-after-north-reads
+
+-- src/locating.rt:121:9
+fixed-at-requires : tie.Need-fixed-at-requires
+fixed-at-requires c κs = search needs
+
+-- src/locating.rt:123:13
+no-extent-requires : tie.Need-no-extent-requires
+no-extent-requires c κs = search needs
+
+-- src/locating.rt:124:9
+returns : tie.Need-returns
+returns c = ?
+
+-- src/locating.rt:130:9
+latitude-at-requires : tie.Need-latitude-at-requires
+latitude-at-requires c κs = search needs
+
+-- src/locating.rt:132:13
+no-extent-requires-2 : tie.Need-no-extent-requires-2
+no-extent-requires-2 c κs = search needs
+
+-- src/locating.rt:133:9
+returns-2 : tie.Need-returns-2
+returns-2 c = ?
+
+-- src/locating.rt:141:5
+read-after-north-requires : tie.Need-read-after-north-requires
+read-after-north-requires c κs = search needs
+
+-- src/locating.rt:117:1
+returns-3 : tie.Need-returns-3
+returns-3 c = ?
+
+pub read-north-spec : {M : Type 1} → statement M
+read-north-spec =
+    tie.close
+    (tie.spec
+    fixed-at-requires
+    no-extent-requires
+    returns
+    latitude-at-requires
+    no-extent-requires-2
+    returns-2
+    read-after-north-requires
+    returns-3)

@@ -1,0 +1,84 @@
+use borrow.Author.Needs.{needs}
+use Rattle.reader.proofs.naming.first_word.Statement.{statement}
+use Rattle.reader.proofs.naming.first_word.Tie as tie
+use Rattle.reader.proofs.naming.first_word.Reads as reads
+use Rattle.reader.proofs.naming.first_word.Lts as lts
+use Rattle.names.proofs.in_name.Reads as in-name-reads
+use Rattle.reader.proofs.empties.no_name.Reads as no-name-reads
+use Rattle.reader.proofs.fixed.word.Reads as word-reads
+use Rattle.reader.proofs.naming.put_word.Reads as put-word-reads
+
+-- src/naming.rt:44:9
+no-name-requires : tie.Need-no-name-requires
+no-name-requires c κs = search needs
+
+-- src/naming.rt:45:9
+word-requires : tie.Need-word-requires
+word-requires c κs = search needs
+
+-- src/naming.rt:48:16
+sub-long : tie.Need-sub-long
+sub-long c = search needs
+
+-- src/naming.rt:50:9
+returns : tie.Need-returns
+returns c = ?
+
+-- src/naming.rt:56:17
+sub-in-name : tie.Need-sub-in-name
+sub-in-name c = search needs
+
+-- src/naming.rt:56:17
+part-in-name-start : tie.Need-part-in-name-start
+part-in-name-start c = search needs
+
+-- src/naming.rt:56:17
+part-in-name-end : tie.Need-part-in-name-end
+part-in-name-end c = search needs
+
+-- src/naming.rt:56:9
+in-name-requires : tie.Need-in-name-requires
+in-name-requires c κs = search needs
+
+-- src/naming.rt:57:9
+returns-2 : tie.Need-returns-2
+returns-2 c = ?
+
+-- src/naming.rt:64:36
+sub-put-word : tie.Need-sub-put-word
+sub-put-word c = search needs
+
+-- src/naming.rt:64:36
+part-put-word-start : tie.Need-part-put-word-start
+part-put-word-start c = search needs
+
+-- src/naming.rt:64:36
+part-put-word-end : tie.Need-part-put-word-end
+part-put-word-end c = search needs
+
+-- src/naming.rt:64:9
+put-word-requires : tie.Need-put-word-requires
+put-word-requires c κs = search needs
+
+-- src/naming.rt:40:1
+returns-3 : tie.Need-returns-3
+returns-3 c = ?
+
+pub first-word-spec : {M : Type 1} → statement M
+first-word-spec =
+    tie.close
+    (tie.spec
+    no-name-requires
+    word-requires
+    sub-long
+    returns
+    sub-in-name
+    part-in-name-start
+    part-in-name-end
+    in-name-requires
+    returns-2
+    sub-put-word
+    part-put-word-start
+    part-put-word-end
+    put-word-requires
+    returns-3)

@@ -1,0 +1,34 @@
+use borrow.Author.Needs.{needs}
+use Rattle.reader.proofs.naming.grown_name.Statement.{statement}
+use Rattle.reader.proofs.naming.grown_name.Tie as tie
+use Rattle.reader.proofs.naming.grown_name.Reads as reads
+use Rattle.reader.proofs.naming.grown_name.Lts as lts
+use Rattle.reader.proofs.naming.put_word.Reads as put-word-reads
+
+-- src/naming.rt:79:5
+array-write-bytes : tie.Need-array-write-bytes
+array-write-bytes c = search needs
+
+-- src/naming.rt:80:32
+add-put-word : tie.Need-add-put-word
+add-put-word c = search needs
+
+-- src/naming.rt:80:9
+put-word-requires : tie.Need-put-word-requires
+put-word-requires c κs = search needs
+
+-- src/naming.rt:83:16
+add-t9 : tie.Need-add-t9
+add-t9 c = search needs
+
+-- src/naming.rt:83:16
+add-t11 : tie.Need-add-t11
+add-t11 c = search needs
+
+-- src/naming.rt:73:1
+returns : tie.Need-returns
+returns c = ?
+
+pub grown-name-spec : {M : Type 1} → statement M
+grown-name-spec =
+    tie.close (tie.spec array-write-bytes add-put-word put-word-requires add-t9 add-t11 returns)

@@ -1,0 +1,88 @@
+use borrow.Author.Needs.{needs}
+use Rattle.reader.proofs.naming.next_word.Statement.{statement}
+use Rattle.reader.proofs.naming.next_word.Tie as tie
+use Rattle.reader.proofs.naming.next_word.Reads as reads
+use Rattle.reader.proofs.naming.next_word.Lts as lts
+use Rattle.names.proofs.in_name.Reads as in-name-reads
+use Rattle.reader.proofs.fixed.word.Reads as word-reads
+use Rattle.reader.proofs.naming.grown_name.Reads as grown-name-reads
+
+-- src/naming.rt:92:9
+word-requires : tie.Need-word-requires
+word-requires c κs = search needs
+
+-- src/naming.rt:95:16
+sub-room : tie.Need-sub-room
+sub-room c = search needs
+
+-- src/naming.rt:96:20
+sub-if1 : tie.Need-sub-if1
+sub-if1 c = search needs
+
+-- src/naming.rt:96:15
+add-if1 : tie.Need-add-if1
+add-if1 c = search needs
+
+-- src/naming.rt:97:9
+returns : tie.Need-returns
+returns c = ?
+
+-- src/naming.rt:103:17
+sub-in-name : tie.Need-sub-in-name
+sub-in-name c = search needs
+
+-- src/naming.rt:103:17
+part-in-name-start : tie.Need-part-in-name-start
+part-in-name-start c = search needs
+
+-- src/naming.rt:103:17
+part-in-name-end : tie.Need-part-in-name-end
+part-in-name-end c = search needs
+
+-- src/naming.rt:103:9
+in-name-requires : tie.Need-in-name-requires
+in-name-requires c κs = search needs
+
+-- src/naming.rt:104:9
+returns-2 : tie.Need-returns-2
+returns-2 c = ?
+
+-- src/naming.rt:110:33
+sub-grown-name : tie.Need-sub-grown-name
+sub-grown-name c = search needs
+
+-- src/naming.rt:110:33
+part-grown-name-start : tie.Need-part-grown-name-start
+part-grown-name-start c = search needs
+
+-- src/naming.rt:110:33
+part-grown-name-end : tie.Need-part-grown-name-end
+part-grown-name-end c = search needs
+
+-- src/naming.rt:110:9
+grown-name-requires : tie.Need-grown-name-requires
+grown-name-requires c κs = search needs
+
+-- src/naming.rt:88:1
+returns-3 : tie.Need-returns-3
+returns-3 c = ?
+
+pub next-word-spec : {M : Type 1} → statement M
+next-word-spec =
+    tie.close
+    (tie.spec
+    word-requires
+    sub-room
+    sub-if1
+    add-if1
+    returns
+    sub-in-name
+    part-in-name-start
+    part-in-name-end
+    in-name-requires
+    returns-2
+    sub-grown-name
+    part-grown-name-start
+    part-grown-name-end
+    grown-name-requires
+    returns-3)

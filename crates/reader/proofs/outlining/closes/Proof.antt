@@ -1,0 +1,21 @@
+use borrow.Author.Needs.{needs}
+use Rattle.reader.proofs.outlining.closes.Statement.{statement}
+use Rattle.reader.proofs.outlining.closes.Tie as tie
+use Rattle.reader.proofs.outlining.closes.Reads as reads
+use Rattle.reader.proofs.outlining.closes.Lts as lts
+use Rattle.coordinates.proofs.same_point.Reads as same-point-reads
+
+-- src/outlining.rt:48:9
+returns : tie.Need-returns
+returns c = ?
+
+-- src/outlining.rt:50:5
+same-point-requires : tie.Need-same-point-requires
+same-point-requires c κs = search needs
+
+-- src/outlining.rt:44:1
+returns-2 : tie.Need-returns-2
+returns-2 c = ?
+
+pub closes-spec : {M : Type 1} → statement M
+closes-spec = tie.close (tie.spec returns same-point-requires returns-2)

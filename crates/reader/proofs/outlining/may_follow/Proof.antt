@@ -1,0 +1,31 @@
+use borrow.Author.Needs.{needs}
+use Rattle.reader.proofs.outlining.may_follow.Statement.{statement}
+use Rattle.reader.proofs.outlining.may_follow.Tie as tie
+use Rattle.reader.proofs.outlining.may_follow.Reads as reads
+use Rattle.reader.proofs.outlining.may_follow.Lts as lts
+use Rattle.coordinates.proofs.same_latitude.Reads as same-latitude-reads
+use Rattle.lists.proofs.either.Reads as either-reads
+
+-- src/outlining.rt:37:9
+returns : tie.Need-returns
+returns c = ?
+
+-- src/outlining.rt:40:12
+add-either : tie.Need-add-either
+add-either c = search needs
+
+-- src/outlining.rt:40:37
+same-latitude-requires : tie.Need-same-latitude-requires
+same-latitude-requires c κs = search needs
+
+-- src/outlining.rt:40:5
+either-requires : tie.Need-either-requires
+either-requires c κs = search needs
+
+-- src/outlining.rt:32:1
+returns-2 : tie.Need-returns-2
+returns-2 c = ?
+
+pub may-follow-spec : {M : Type 1} → statement M
+may-follow-spec =
+    tie.close (tie.spec returns add-either same-latitude-requires either-requires returns-2)

@@ -1,0 +1,11 @@
+pub mod Going
+pub mod Kinds
+pub mod Heads
+pub mod Naming
+pub mod Forms
+pub mod Phenomena
+pub mod Locations
+pub mod Outlines
+pub mod Endings
+pub mod Reports
+pub mod Bodies
