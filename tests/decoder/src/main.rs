@@ -1,0 +1,47 @@
+//! decoder [read] | generate SEED COUNT | compare PROGRAM SEED COUNT
+
+mod compare;
+mod decode;
+mod generate;
+mod good;
+mod grammar;
+mod rng;
+mod shapes;
+#[cfg(test)]
+mod tests;
+mod words;
+
+use std::io::{Read, Write};
+use std::process::exit;
+
+fn main() {
+    let args: Vec<String> = std::env::args().skip(1).collect();
+    let args: Vec<&str> = args.iter().map(String::as_str).collect();
+    let number = |text: &str| text.parse::<u64>().unwrap_or_else(|_| usage());
+    match args[..] {
+        // Without arguments it stands in for the program, to try the comparison.
+        [] | ["read"] => {
+            let mut text = Vec::new();
+            std::io::stdin().take(2049).read_to_end(&mut text).expect("standard input");
+            let reply = decode::decode(&text);
+            std::io::stdout().write_all(&compare::printed(&reply)).expect("standard output");
+        }
+        ["generate", seed, count] => {
+            for index in 0..number(count) {
+                let (class, text) = generate::bulletin(number(seed), index);
+                println!("{:8} b\"{}\"", generate::CLASSES[class], text.escape_ascii());
+            }
+        }
+        ["compare", program, seed, count] => {
+            if !compare::compare(program, number(seed), number(count)) {
+                exit(1);
+            }
+        }
+        _ => usage(),
+    }
+}
+
+fn usage() -> ! {
+    eprintln!("usage: decoder [read] | generate SEED COUNT | compare PROGRAM SEED COUNT");
+    exit(2)
+}

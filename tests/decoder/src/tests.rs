@@ -1,0 +1,131 @@
+use crate::decode::decode;
+use crate::generate::{bulletin, may_follow, CLASSES};
+use crate::words::cut;
+
+const SAMPLE: &str = "WSZZ31 QAAA 180830\r\nQBBB SIGMET 1 VALID 180830/181230 QAAA-\r\n\
+    QBBB NORTH SOUND FIR SEV ICE FCST E OF E114 SFC/FL100 MOV E 20KT WKN=";
+
+fn verdict(text: &str) -> (u8, usize) {
+    let reply = decode(text.as_bytes());
+    (reply.number, reply.place)
+}
+
+#[test]
+fn the_paper_s_cases() {
+    assert_eq!(SAMPLE.len(), 130);
+    assert_eq!(verdict(SAMPLE), (0, 0));
+    assert_eq!(decode(SAMPLE.as_bytes()).canonical, SAMPLE.as_bytes());
+    assert_eq!(verdict(&SAMPLE.replace("E114", "E180")), (0, 0));
+    assert_eq!(verdict(&SAMPLE.replace("E114", "E181")), (9, 100));
+    assert_eq!(verdict(&SAMPLE.replace("WKN", "FCST")), (11, 126));
+    assert_eq!(verdict(&SAMPLE.replace("WKN", "WKN NC")), (12, 130));
+    assert_eq!(verdict(&SAMPLE.replace('=', "")), (3, 129));
+    assert_eq!(verdict(&SAMPLE.replace("E OF E114", "N OF N9001")), (9, 100));
+    assert_eq!(verdict(&SAMPLE.replace("QAAA-", "QAAA")), (5, 54));
+}
+
+/// Bodies after the first line; a `^` stands before the word refused.
+#[rustfmt::skip]
+const BODIES: &[(&str, u8, &str)] = &[
+    ("WS", 6, "QBBB ^FIR TEST="), ("WS", 6, "QBBB ^="), ("WS", 6, "QBBB A ^B1 FIR TEST="), ("WS", 0, "QBBB A FIR/UIR TEST="),
+    ("WS", 0, "QBBB ABCDEFGHIJ ABCDEFGHIJ ABCDEFGHIJ ABCDEFGHIJ ABCD-F FIR TEST="),
+    ("WS", 6, "QBBB ABCDEFGHIJ ABCDEFGHIJ ABCDEFGHIJ ABCDEFGHIJ ^ABCDEFG FIR TEST="),
+    ("WS", 6, "QBBB ABCDEFGHIJ ABCDEFGHIJ ABCDEFGHIJ ABCDEFGHIJ ABCDE ^A FIR TEST="),
+    ("WS", 7, "QBBB A FIR ^FIR TEST="), ("WS", 12, "QBBB A FIR TEST ^PLEASE="), ("WS", 7, "QBBB A FIR TEST SIGMET ^="),
+    ("WV", 0, "QBBB A FIR TEST. THIS IS A TEST SIGMET, PLEASE DISREGARD="), ("WV", 7, "QBBB A FIR TEST. THIS IS A TEST ^SIGMET="),
+    ("WS", 12, "QBBB A FIR TEST SIGMET PLEASE DISREGARD ^TEST="),
+    ("WS", 0, "QBBB A FIR CNL SIGMET 2 010000/010400="), ("WS", 7, "QBBB A FIR CNL SIGMET 1 ^010000/010400="),
+    ("WS", 0, "QBBB A FIR CNL SIGMET 01 010000/010400="), ("WS", 0, "QBBB A FIR CNL SIGMET 1 010001/010400="),
+    ("WS", 7, "QBBB A FIR CNL SIGMET 2 ^010000/010401="), ("WS", 12, "QBBB A FIR CNL SIGMET 2 010000/010400 ^VA="),
+    ("WS", 7, "QBBB A FIR ^VA CLD OBS="), ("WV", 7, "QBBB A FIR ^SEV ICE OBS="), ("WS", 7, "QBBB A FIR ^="),
+    ("WS", 8, "QBBB A FIR SEV ICE ^(FZRB) OBS="), ("WS", 8, "QBBB A FIR SEV TURB ^(FZRA) OBS="), ("WS", 7, "QBBB A FIR OBSC ^="),
+    ("WS", 8, "QBBB A FIR SEV ICE OBS AT ^2400Z="), ("WS", 9, "QBBB A FIR SEV ICE OBS ^2300Z="), ("WS", 9, "QBBB A FIR SEV ICE OBS ^="),
+    ("WS", 10, "QBBB A FIR SEV ICE OBS N OF N10 ^OF="), ("WS", 9, "QBBB A FIR SEV ICE OBS N OF N10 AND ^N OF N20="),
+    ("WS", 10, "QBBB A FIR SEV ICE OBS E OF E010 ^AND N OF N20="), ("WS", 9, "QBBB A CTA SEV ICE OBS ENTIRE ^FIR="),
+    ("WS", 9, "QBBB A FIR/UIR SEV ICE OBS ENTIRE ^CTA="), ("WS", 0, "QBBB A CTA SEV ICE OBS ENTIRE CTA FL001 STNR NC="),
+    ("WS", 10, "QBBB A FIR SEV ICE OBS ENTIRE FIR ^FL000="), ("WS", 10, "QBBB A FIR SEV ICE OBS ENTIRE FIR TOP ^FL100/200="),
+    ("WS", 11, "QBBB A FIR SEV ICE OBS ENTIRE FIR TOP ABV FL100 ^="), ("WS", 11, "QBBB A FIR SEV ICE OBS ENTIRE FIR FL100 NC ^="),
+    ("WV", 11, "QBBB A FIR VA CLD OBS ENTIRE FIR FL100 ^NC FCST AT 0400Z ENTIRE FIR="),
+    ("WS", 0, "QBBB A FIR SEV ICE OBS ENTIRE FIR FL100 NC FCST AT 0400Z ENTIRE FIR="),
+    ("WS", 11, "QBBB A FIR SEV ICE OBS ENTIRE FIR FL100 NC FCST AT ^0000Z ENTIRE FIR="),
+    ("WS", 12, "QBBB A FIR SEV ICE OBS ENTIRE FIR FL100 NC FCST AT 0400Z N OF N10 ^E="),
+    ("WS", 11, "QBBB A FIR SEV ICE OBS ENTIRE FIR FL100 NC FCST AT 0400Z N OF N10 AND ^="),
+    ("WS", 12, "QBBB A FIR SEV ICE OBS ENTIRE FIR FL100 NC FCST AT 0400Z WI N00 E180 - N01 E180 - N02 E180 - S00 W180 ^-="),
+    ("WS", 12, "QBBB A FIR SEV ICE OBS ENTIRE FIR FL100 STNR NC ^FCST AT 0400Z="),
+    ("WS", 9, "QBBB A FIR SEV ICE OBS WI N00 E180 - S0000 ^W18000 - N01 E001="),
+    ("WS", 9, "QBBB A FIR SEV ICE OBS WI N00 E180 - N01 E001 - S0000 ^W18000 FL100="),
+    ("WS", 10, "QBBB A FIR SEV ICE OBS WI N00 E180 - N01 E001 - N02 E001 - S0000 W18000 ^- N01="),
+    ("WS", 9, "QBBB A FIR SEV ICE OBS WI N00 E180 - N01 E001 - N02 E001 - N03 E001 ^FL100="),
+    ("WS", 9, "QBBB A FIR SEV ICE OBS WI N00 E180 - N01 E001 - N02 E001 - N03 E001 - N00 E001 - N00 E002 - ^N01 E180="),
+    ("WS", 9, "QBBB A FIR SEV ICE OBS WI N00 E180 - N01 E001 - N02 E001 - N03 E001 - N00 E001 - N00 E002 - S00 ^W179="),
+    ("WS", 10, "QBBB A FIR SEV ICE OBS WI N00 E180 - N01 E001 - N02 E001 - N03 E001 - N00 E001 - N00 E002 - S00 W180 ^="),
+    ("WV", 7, "QBBB A FIR VA ERUPTION ^VA CLD="), ("WV", 7, "QBBB A FIR VA ERUPTION MT ^PSN N00 E000="),
+    ("WV", 8, "QBBB A FIR VA ERUPTION MT FIR CTA PSN N00 E000 VA CLD ^="), ("WV", 7, "QBBB A FIR VA ERUPTION PSN N00 ^VA CLD="),
+    ("WV", 8, "QBBB A FIR VA ERUPTION MT ABCDEFGHIJ ABCDEFGHIJ ABCDEFGH PSN N00 E000 VA CLD ^="),
+    ("WV", 7, "QBBB A FIR VA ERUPTION MT ABCDEFGHIJ ABCDEFGHIJ ^ABCDEFGHI PSN N00 E000 VA CLD="),
+];
+
+#[test]
+fn places_of_refusal() {
+    for (kind, number, body) in BODIES {
+        let text = format!("{kind}AA00 QAAA 010000 CCX QBBB SIGMET 1 VALID 010000/010400 QAAA- {body}");
+        let place = text.find('^').unwrap_or(0);
+        assert_eq!(verdict(&text.replace('^', "")), (*number, place), "{text}");
+    }
+}
+
+#[test]
+fn bytes_before_words() {
+    let at = |text: &[u8]| (decode(text).number, decode(text).place);
+    assert_eq!(at(b""), (1, 0));
+    assert_eq!(at(&[b'a'; 2049]), (1, 0));
+    assert_eq!(at(&[b' '; 2048]), (3, 2048));
+    assert_eq!(at(b"= a"), (2, 2));
+    assert_eq!(at(b"= \r\n="), (3, 4));
+    assert_eq!(at(b" \n="), (4, 2));
+    assert_eq!(at(b"WSAA00="), (4, 6));
+}
+
+/// Class (a) is accepted, and its canonical text is its own canonical text.
+#[test]
+fn good_ones_are_accepted() {
+    for index in 0..30_000 {
+        let (class, text) = bulletin(7, index);
+        let reply = decode(&text);
+        if CLASSES[class] == "good" {
+            assert_eq!((reply.number, reply.place), (0, 0), "{}", text.escape_ascii());
+        }
+        if reply.number == 0 {
+            let words: Vec<&str> = cut(&text).unwrap().iter().map(|w| w.text).collect();
+            let canonical = String::from_utf8(reply.canonical.clone()).unwrap();
+            assert_eq!(canonical.replace("\r\n", " "), words.join(" ").replace(" =", "="));
+            assert_eq!(decode(&reply.canonical), reply);
+        }
+    }
+}
+
+/// What stands before a refused word does begin an accepted message: one is found.
+#[test]
+fn beginnings_can_be_ended() {
+    let more = "= WSZZ31 QAAA 010000 SIGMET 1 VALID 010000/010400 QAAA- A FIR TEST PLEASE DISREGARD THIS IS SIGMET, CNL \
+        TS TURB DS CLD PSN N10 N00 E010 E020 E030 VA OBS 0000Z ENTIRE CTA OF FL100 - STNR E 20KT NC FCST AT";
+    for index in 0..10_000 {
+        let (_, text) = bulletin(8, index);
+        let reply = decode(&text);
+        if reply.number < 4 {
+            continue;
+        }
+        let words = cut(&text).unwrap();
+        let before = words.iter().filter(|w| w.place < reply.place);
+        let mut words: Vec<String> = before.map(|w| w.text.to_string()).collect();
+        while words.last().is_none_or(|w| w != "=") {
+            let mut tries: Vec<String> = more.split(' ').map(str::to_string).collect();
+            tries.extend(words.clone());
+            if let Some((start, end)) = words.iter().find_map(|w| w.split_once('/').filter(|_| w.len() == 13)) {
+                tries.extend([format!("020000/{end}"), format!("{start}/{end}"), format!("{}Z", &end[2..])]);
+            }
+            let next = tries.into_iter().find(|w| may_follow(&words, w));
+            words.push(next.unwrap_or_else(|| panic!("no way on: {}", words.join(" "))));
+        }
+    }
+}
