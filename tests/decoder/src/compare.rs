@@ -27,9 +27,10 @@ pub fn printed(reply: &Reply) -> Vec<u8> {
     out
 }
 
-fn run(program: &str, text: &[u8]) -> std::io::Result<Output> {
-    let mut child =
-        Command::new(program).stdin(Stdio::piped()).stdout(Stdio::piped()).stderr(Stdio::piped()).spawn()?;
+fn run(program: &str, words: &[&str], text: &[u8]) -> std::io::Result<Output> {
+    let mut command = Command::new(program);
+    command.args(words).stdin(Stdio::piped()).stdout(Stdio::piped()).stderr(Stdio::piped());
+    let mut child = command.spawn()?;
     // A program that has seen enough may close its end: no matter.
     let _ = child.stdin.take().unwrap().write_all(text);
     child.wait_with_output()
@@ -43,7 +44,7 @@ fn agrees(output: &Output, reply: &Reply) -> bool {
 }
 
 /// Compares `count` bulletins; true where all agree.
-pub fn compare(program: &str, seed: u64, count: u64) -> bool {
+pub fn compare(program: &str, words: &[&str], seed: u64, count: u64) -> bool {
     let next = AtomicU64::new(0);
     let tally = Mutex::new(Tally::default());
     let work = || loop {
@@ -53,7 +54,7 @@ pub fn compare(program: &str, seed: u64, count: u64) -> bool {
         }
         let (class, text) = bulletin(seed, index);
         let reply = decode(&text);
-        let result = run(program, &text);
+        let result = run(program, words, &text);
         let mut tally = tally.lock().unwrap();
         if tally.disagreements >= MOST || tally.failure.is_some() {
             return;

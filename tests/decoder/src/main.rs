@@ -1,4 +1,4 @@
-//! decoder [read] | generate SEED COUNT | compare PROGRAM SEED COUNT
+//! decoder [read] | generate SEED COUNT | compare SEED COUNT PROGRAM [ARGUMENT...]
 
 mod compare;
 mod decode;
@@ -32,8 +32,8 @@ fn main() {
                 println!("{:8} b\"{}\"", generate::CLASSES[class], text.escape_ascii());
             }
         }
-        ["compare", program, seed, count] => {
-            if !compare::compare(program, number(seed), number(count)) {
+        ["compare", seed, count, program, ref rest @ ..] => {
+            if !compare::compare(program, rest, number(seed), number(count)) {
                 exit(1);
             }
         }
@@ -42,6 +42,6 @@ fn main() {
 }
 
 fn usage() -> ! {
-    eprintln!("usage: decoder [read] | generate SEED COUNT | compare PROGRAM SEED COUNT");
+    eprintln!("usage: decoder [read] | generate SEED COUNT | compare SEED COUNT PROGRAM [ARGUMENT...]");
     exit(2)
 }
