@@ -3,7 +3,7 @@
 use mathlib.Core.Bool.{Bool, true, false}
 use mathlib.Core.List.{List, [], _∷_}
 use mathlib.Core.Path.{_≡_, refl, ap, sym, _∙_}
-use Prim.Native.Nat.{ℕ, _≤_, _<_}
+use Prim.Native.Nat.{ℕ, _-_, _≤_, _<_}
 use native.Mathlib.Omega.{arith}
 use lib.Dec.{eqb}
 use lib.ListN.{length}
@@ -12,6 +12,7 @@ use mathlib.Core.Logic.{_⊎_}
 use mathlib.Core.Logic._⊎_.{inl, inr}
 use Rattle.lists.specs.Lists.{part, same}
 use Rattle.lists.proofs.Choice.{clash}
+use Rattle.lists.proofs.Lists.{length-part}
 use Rattle.words.specs.Words.{spanOf}
 use Rattle.figures.specs.Keywords.{codeOf}
 use Rattle.figures.specs.Reads.{Reads}
@@ -22,10 +23,12 @@ use Rattle.grammar.specs.Runs.{Ran, runAt}
 use Rattle.grammar.specs.Runs.Ran.{refused}
 use Rattle.grammar.specs.States.{State}
 use Rattle.grammar.specs.States.Move.{goes, done, dead}
+use Rattle.grammar.specs.States.State.{atEnd}
 use Rattle.grammar.specs.Steps.{goesIf, step}
 use Rattle.grammar.proofs.NumberLaws.{number-range}
 use Rattle.reader.specs.Going.{goesOn, concluded, Goes, Ends, wordFrom, WordAt}
 use Rattle.reader.specs.Kinds.{Required, FixedWord, Fixed, Perhaps, CodeAt, EndAt, Concludes}
+use Rattle.reader.proofs.Chains.{off-ends}
 use Rattle.reader.proofs.Going.{dead-at, same-at, goes-at, done-at, some-word}
 
 -- a refusal by a state's number is none of number 0
@@ -129,4 +132,28 @@ module _ {t : List ℕ} {at start end code : ℕ} (h : at ≤ length t) (c : Cod
     with = λ y k f s there j. clash false y refl;
     without = λ n k f s otherwise j q. same-word h (c .word) s otherwise q (j (is-no f e));
     within = h;
+  }
+
+-- the `=`, the word of no byte
+word-length : {t : List ℕ} {at start end : ℕ} → WordAt t at start end → length (wordFrom t at) ≡ end - start
+word-length {t} {at} {start} {end} w = ap (λ (v : List ℕ). length v) (sym (part-is w)) ∙ length-part start end t (w .ordered) (w .within)
+
+some-byte : (w : List ℕ) → (length w ≡ 0 → ⊥) → same w [] ≡ false
+unfolding same
+some-byte [] l = absurd (l refl)
+some-byte (b ∷ w) l = refl
+
+module _ {t : List ℕ} {at start end : ℕ} (h : at ≤ length t) (w : WordAt t at start end) where
+  -- the message is over
+  pub end-yes : start ≡ end → EndAt t at 0 0
+  unfolding step same
+  end-yes e = record { says = λ r. record { says = done-at (atEnd r) r t at h (omega (arith, word-length w)) refl } }
+
+  -- a word where only the `=` may stand
+  pub end-no : (start ≡ end → ⊥) → EndAt t at 12 start
+  unfolding step
+  end-no e = record {
+    says = λ r.
+        let other : same (wordFrom t at) [] ≡ false = some-byte (wordFrom t at) (λ z. e (omega (arith, word-length w, w .ordered))) in
+        off-ends (dead-word h w (atEnd r) (atEnd r) 12 refl (rw other)) (λ z. omega arith);
   }

@@ -89,7 +89,7 @@ pub(crate) fn perhaps_at(text: &[u8], at: usize, code: u64) -> PerhapsRead
 
 // A fixed word of more than seven bytes, by its number among the keywords.
 pub(crate) fn long_at(text: &[u8], at: usize, wanted: u8, refusal: u8) -> LongRead
-    requires { ⌜ at ≤ length (now text) ⌝ }
+    requires { ⌜ (at ≤ length (now text)) × (1 ≤ wanted) ⌝ }
     ensures { λ r. ⌜ Required keywordOf (eqb wanted) refusal (now (text .entry)) at (r .number) (r .place) (r .keyword) ⌝ }
 {
     let next = word(text, at);

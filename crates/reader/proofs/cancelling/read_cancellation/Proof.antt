@@ -1,35 +1,50 @@
+-- `read_cancellation` meets its contract: SIGMET, a sequence and a period that cancels, one after another. Assumes nothing.
 use borrow.Author.Needs.{needs}
+use mathlib.Core.Path.{refl}
+use Rattle.grammar.specs.Records.{cancellationOf}
+use Rattle.grammar.specs.States.State.{atCancelSigmet, atCancelSequence, atCancelPeriod, atEnd}
+use Rattle.grammar.specs.Steps.{step}
+use Rattle.reader.proofs.Chains.{on, off}
+use Rattle.reader.proofs.FixedWords.{fixed-sigmet}
 use Rattle.reader.proofs.cancelling.read_cancellation.Statement.{statement}
 use Rattle.reader.proofs.cancelling.read_cancellation.Tie as tie
-use Rattle.reader.proofs.cancelling.read_cancellation.Reads as reads
-use Rattle.reader.proofs.cancelling.read_cancellation.Lts as lts
-use Rattle.reader.proofs.cancelling.cancelled_at.Reads as cancelled-at-reads
-use Rattle.reader.proofs.fixed.fixed_at.Reads as fixed-at-reads
-use Rattle.reader.proofs.kinds.sequence_at.Reads as sequence-at-reads
 
--- src/cancelling.rt:75:9
 fixed-at-requires : tie.Need-fixed-at-requires
 fixed-at-requires c κs = search needs
 
--- src/cancelling.rt:77:9
 returns : tie.Need-returns
-returns c = ?
+unfolding step
+returns c = record {
+  says = λ o l. off (c .before .before .fixed-at .ensures .says _ fixed-sigmet (atCancelSigmet o) (atCancelSequence o) refl refl) (c .if1 .taken);
+  within = search needs;
+}
 
--- src/cancelling.rt:84:9
 sequence-at-requires : tie.Need-sequence-at-requires
 sequence-at-requires c κs = search needs
 
--- src/cancelling.rt:87:9
 returns-2 : tie.Need-returns-2
-returns-2 c = ?
+unfolding step
+returns-2 c = record {
+  says = λ o l. off
+      (on (c .before .before .before .before .before .before .fixed-at .ensures .says _ fixed-sigmet (atCancelSigmet o) (atCancelSequence o) refl refl) (c .before .before .before .before .if1 .left)
+      (c .before .before .before .sequence-at .ensures .says (atCancelSequence o) (atCancelPeriod o) refl refl))
+      (c .if2 .taken);
+  within = search needs;
+}
 
--- src/cancelling.rt:94:9
 cancelled-at-requires : tie.Need-cancelled-at-requires
 cancelled-at-requires c κs = search needs
 
--- src/cancelling.rt:65:1
 returns-3 : tie.Need-returns-3
-returns-3 c = ?
+unfolding step
+returns-3 c =
+    let s = c .before .before .before .before .before .before .sequence-at in
+    record {
+      says = λ o l. on (c .before .before .before .before .before .before .before .before .before .fixed-at .ensures .says _ fixed-sigmet (atCancelSigmet o) (atCancelSequence o) refl refl) (c .before .before .before .before .before .before .before .if1 .left)
+          (on (s .ensures .says (atCancelSequence o) (atCancelPeriod o) refl refl) (c .before .before .before .if2 .left)
+          (c .before .before .cancelled-at .ensures .says (atCancelPeriod o (s .result .sequence)) (λ p. atEnd (cancellationOf o (s .result .sequence) (p .from))) (rw l) refl));
+      within = search needs;
+    }
 
 pub read-cancellation-spec : {M : Type 1} → statement M
 read-cancellation-spec =

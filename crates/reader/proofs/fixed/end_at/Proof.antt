@@ -1,21 +1,17 @@
+-- `end_at` meets its contract: the word of no byte is the `=`. Assumes nothing.
 use borrow.Author.Needs.{needs}
+use Rattle.reader.proofs.KindLaws.{end-yes, end-no}
 use Rattle.reader.proofs.fixed.end_at.Statement.{statement}
 use Rattle.reader.proofs.fixed.end_at.Tie as tie
-use Rattle.reader.proofs.fixed.end_at.Reads as reads
-use Rattle.reader.proofs.fixed.end_at.Lts as lts
-use Rattle.reader.proofs.fixed.word.Reads as word-reads
 
--- src/fixed.rt:118:9
 word-requires : tie.Need-word-requires
 word-requires c κs = search needs
 
--- src/fixed.rt:121:9
 returns : tie.Need-returns
-returns c = ?
+returns c = end-yes (search needs) (c .before .before .word .ensures) (c .if1 .taken)
 
--- src/fixed.rt:114:1
 returns-2 : tie.Need-returns-2
-returns-2 c = ?
+returns-2 c = end-no (search needs) (c .before .before .word .ensures) (c .if1 .left)
 
 pub end-at-spec : {M : Type 1} → statement M
 end-at-spec = tie.close (tie.spec word-requires returns returns-2)

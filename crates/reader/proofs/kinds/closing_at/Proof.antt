@@ -1,38 +1,29 @@
+-- `closing_at` meets its contract: 0 is no closing word. Assumes nothing.
 use borrow.Author.Needs.{needs}
+use Rattle.reader.proofs.Tells.{told-yes, told-no, closing-told}
 use Rattle.reader.proofs.kinds.closing_at.Statement.{statement}
 use Rattle.reader.proofs.kinds.closing_at.Tie as tie
-use Rattle.reader.proofs.kinds.closing_at.Reads as reads
-use Rattle.reader.proofs.kinds.closing_at.Lts as lts
-use Rattle.names.proofs.closing_word.Reads as closing-word-reads
-use Rattle.reader.proofs.fixed.word.Reads as word-reads
 
--- src/kinds.rt:245:9
 word-requires : tie.Need-word-requires
 word-requires c κs = search needs
 
--- src/kinds.rt:248:32
 sub-closing-word : tie.Need-sub-closing-word
 sub-closing-word c = search needs
 
--- src/kinds.rt:248:32
 part-closing-word-start : tie.Need-part-closing-word-start
 part-closing-word-start c = search needs
 
--- src/kinds.rt:248:32
 part-closing-word-end : tie.Need-part-closing-word-end
 part-closing-word-end c = search needs
 
--- src/kinds.rt:248:9
 closing-word-requires : tie.Need-closing-word-requires
 closing-word-requires c κs = search needs
 
--- src/kinds.rt:250:9
 returns : tie.Need-returns
-returns c = ?
+returns c = told-no closing-told (search needs) (c .before .before .before .word .ensures) (c .before .closing-word .ensures) (c .if1 .taken)
 
--- src/kinds.rt:241:1
 returns-2 : tie.Need-returns-2
-returns-2 c = ?
+returns-2 c = told-yes closing-told (search needs) (c .before .before .before .word .ensures) (c .before .closing-word .ensures) (c .if1 .left)
 
 pub closing-at-spec : {M : Type 1} → statement M
 closing-at-spec =

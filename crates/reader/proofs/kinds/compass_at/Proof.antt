@@ -1,38 +1,29 @@
+-- `compass_at` meets its contract: 16 is no compass point. Assumes nothing.
 use borrow.Author.Needs.{needs}
+use Rattle.reader.proofs.Tells.{told-yes, told-no, compass-told}
 use Rattle.reader.proofs.kinds.compass_at.Statement.{statement}
 use Rattle.reader.proofs.kinds.compass_at.Tie as tie
-use Rattle.reader.proofs.kinds.compass_at.Reads as reads
-use Rattle.reader.proofs.kinds.compass_at.Lts as lts
-use Rattle.motions.proofs.compass_word.Reads as compass-word-reads
-use Rattle.reader.proofs.fixed.word.Reads as word-reads
 
--- src/kinds.rt:333:9
 word-requires : tie.Need-word-requires
 word-requires c κs = search needs
 
--- src/kinds.rt:336:32
 sub-compass-word : tie.Need-sub-compass-word
 sub-compass-word c = search needs
 
--- src/kinds.rt:336:32
 part-compass-word-start : tie.Need-part-compass-word-start
 part-compass-word-start c = search needs
 
--- src/kinds.rt:336:32
 part-compass-word-end : tie.Need-part-compass-word-end
 part-compass-word-end c = search needs
 
--- src/kinds.rt:336:9
 compass-word-requires : tie.Need-compass-word-requires
 compass-word-requires c κs = search needs
 
--- src/kinds.rt:338:9
 returns : tie.Need-returns
-returns c = ?
+returns c = told-no compass-told (search needs) (c .before .before .before .word .ensures) (c .before .compass-word .ensures) (c .if1 .taken)
 
--- src/kinds.rt:329:1
 returns-2 : tie.Need-returns-2
-returns-2 c = ?
+returns-2 c = told-yes compass-told (search needs) (c .before .before .before .word .ensures) (c .before .compass-word .ensures) (c .if1 .left)
 
 pub compass-at-spec : {M : Type 1} → statement M
 compass-at-spec =

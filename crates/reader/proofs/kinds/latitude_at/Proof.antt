@@ -1,38 +1,29 @@
+-- `latitude_at` meets its contract: letter 0 is that of no latitude. Assumes nothing.
 use borrow.Author.Needs.{needs}
+use Rattle.reader.proofs.Tells.{told-yes, told-no, latitude-told}
 use Rattle.reader.proofs.kinds.latitude_at.Statement.{statement}
 use Rattle.reader.proofs.kinds.latitude_at.Tie as tie
-use Rattle.reader.proofs.kinds.latitude_at.Reads as reads
-use Rattle.reader.proofs.kinds.latitude_at.Lts as lts
-use Rattle.coordinates.proofs.latitude.Reads as latitude-reads
-use Rattle.reader.proofs.fixed.word.Reads as word-reads
 
--- src/kinds.rt:267:9
 word-requires : tie.Need-word-requires
 word-requires c κs = search needs
 
--- src/kinds.rt:270:31
 sub-latitude : tie.Need-sub-latitude
 sub-latitude c = search needs
 
--- src/kinds.rt:270:31
 part-latitude-start : tie.Need-part-latitude-start
 part-latitude-start c = search needs
 
--- src/kinds.rt:270:31
 part-latitude-end : tie.Need-part-latitude-end
 part-latitude-end c = search needs
 
--- src/kinds.rt:270:9
 latitude-requires : tie.Need-latitude-requires
 latitude-requires c κs = search needs
 
--- src/kinds.rt:272:9
 returns : tie.Need-returns
-returns c = ?
+returns c = told-no latitude-told (search needs) (c .before .before .before .before .word .ensures) (c .before .before .latitude .ensures) (c .if1 .taken)
 
--- src/kinds.rt:263:1
 returns-2 : tie.Need-returns-2
-returns-2 c = ?
+returns-2 c = told-yes latitude-told (search needs) (c .before .before .before .before .word .ensures) (c .before .before .latitude .ensures) (c .if1 .left)
 
 pub latitude-at-spec : {M : Type 1} → statement M
 latitude-at-spec =

@@ -1,38 +1,29 @@
+-- `longitude_at` meets its contract: letter 0 is that of no longitude. Assumes nothing.
 use borrow.Author.Needs.{needs}
+use Rattle.reader.proofs.Tells.{told-yes, told-no, longitude-told}
 use Rattle.reader.proofs.kinds.longitude_at.Statement.{statement}
 use Rattle.reader.proofs.kinds.longitude_at.Tie as tie
-use Rattle.reader.proofs.kinds.longitude_at.Reads as reads
-use Rattle.reader.proofs.kinds.longitude_at.Lts as lts
-use Rattle.coordinates.proofs.longitude.Reads as longitude-reads
-use Rattle.reader.proofs.fixed.word.Reads as word-reads
 
--- src/kinds.rt:289:9
 word-requires : tie.Need-word-requires
 word-requires c κs = search needs
 
--- src/kinds.rt:292:32
 sub-longitude : tie.Need-sub-longitude
 sub-longitude c = search needs
 
--- src/kinds.rt:292:32
 part-longitude-start : tie.Need-part-longitude-start
 part-longitude-start c = search needs
 
--- src/kinds.rt:292:32
 part-longitude-end : tie.Need-part-longitude-end
 part-longitude-end c = search needs
 
--- src/kinds.rt:292:9
 longitude-requires : tie.Need-longitude-requires
 longitude-requires c κs = search needs
 
--- src/kinds.rt:294:9
 returns : tie.Need-returns
-returns c = ?
+returns c = told-no longitude-told (search needs) (c .before .before .before .before .word .ensures) (c .before .before .longitude .ensures) (c .if1 .taken)
 
--- src/kinds.rt:285:1
 returns-2 : tie.Need-returns-2
-returns-2 c = ?
+returns-2 c = told-yes longitude-told (search needs) (c .before .before .before .before .word .ensures) (c .before .before .longitude .ensures) (c .if1 .left)
 
 pub longitude-at-spec : {M : Type 1} → statement M
 longitude-at-spec =

@@ -1,38 +1,29 @@
+-- `period_at` meets its contract: day 0 is that of no period. Assumes nothing.
 use borrow.Author.Needs.{needs}
+use Rattle.reader.proofs.Tells.{told-yes, told-no, period-told}
 use Rattle.reader.proofs.kinds.period_at.Statement.{statement}
 use Rattle.reader.proofs.kinds.period_at.Tie as tie
-use Rattle.reader.proofs.kinds.period_at.Reads as reads
-use Rattle.reader.proofs.kinds.period_at.Lts as lts
-use Rattle.groups.proofs.period_word.Reads as period-word-reads
-use Rattle.reader.proofs.fixed.word.Reads as word-reads
 
--- src/kinds.rt:200:9
 word-requires : tie.Need-word-requires
 word-requires c κs = search needs
 
--- src/kinds.rt:203:30
 sub-period-word : tie.Need-sub-period-word
 sub-period-word c = search needs
 
--- src/kinds.rt:203:30
 part-period-word-start : tie.Need-part-period-word-start
 part-period-word-start c = search needs
 
--- src/kinds.rt:203:30
 part-period-word-end : tie.Need-part-period-word-end
 part-period-word-end c = search needs
 
--- src/kinds.rt:203:9
 period-word-requires : tie.Need-period-word-requires
 period-word-requires c κs = search needs
 
--- src/kinds.rt:206:9
 returns : tie.Need-returns
-returns c = ?
+returns c = told-no period-told (search needs) (c .before .before .before .before .before .word .ensures) (c .before .before .before .period-word .ensures) (c .if1 .taken)
 
--- src/kinds.rt:196:1
 returns-2 : tie.Need-returns-2
-returns-2 c = ?
+returns-2 c = told-yes period-told (search needs) (c .before .before .before .before .before .word .ensures) (c .before .before .before .period-word .ensures) (c .if1 .left)
 
 pub period-at-spec : {M : Type 1} → statement M
 period-at-spec =

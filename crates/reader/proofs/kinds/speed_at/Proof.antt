@@ -1,38 +1,29 @@
+-- `speed_at` meets its contract: unit 0 is that of no speed. Assumes nothing.
 use borrow.Author.Needs.{needs}
+use Rattle.reader.proofs.Tells.{told-yes, told-no, speed-told}
 use Rattle.reader.proofs.kinds.speed_at.Statement.{statement}
 use Rattle.reader.proofs.kinds.speed_at.Tie as tie
-use Rattle.reader.proofs.kinds.speed_at.Reads as reads
-use Rattle.reader.proofs.kinds.speed_at.Lts as lts
-use Rattle.motions.proofs.speed_word.Reads as speed-word-reads
-use Rattle.reader.proofs.fixed.word.Reads as word-reads
 
--- src/kinds.rt:355:9
 word-requires : tie.Need-word-requires
 word-requires c κs = search needs
 
--- src/kinds.rt:358:28
 sub-speed-word : tie.Need-sub-speed-word
 sub-speed-word c = search needs
 
--- src/kinds.rt:358:28
 part-speed-word-start : tie.Need-part-speed-word-start
 part-speed-word-start c = search needs
 
--- src/kinds.rt:358:28
 part-speed-word-end : tie.Need-part-speed-word-end
 part-speed-word-end c = search needs
 
--- src/kinds.rt:358:9
 speed-word-requires : tie.Need-speed-word-requires
 speed-word-requires c κs = search needs
 
--- src/kinds.rt:360:9
 returns : tie.Need-returns
-returns c = ?
+returns c = told-no speed-told (search needs) (c .before .before .before .before .word .ensures) (c .before .before .speed-word .ensures) (c .if1 .taken)
 
--- src/kinds.rt:351:1
 returns-2 : tie.Need-returns-2
-returns-2 c = ?
+returns-2 c = told-yes speed-told (search needs) (c .before .before .before .before .word .ensures) (c .before .before .speed-word .ensures) (c .if1 .left)
 
 pub speed-at-spec : {M : Type 1} → statement M
 speed-at-spec =

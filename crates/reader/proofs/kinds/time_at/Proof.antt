@@ -1,38 +1,29 @@
+-- `time_at` meets its contract: hour 24 is that of no time. Assumes nothing.
 use borrow.Author.Needs.{needs}
+use Rattle.reader.proofs.Tells.{told-yes, told-no, time-told}
 use Rattle.reader.proofs.kinds.time_at.Statement.{statement}
 use Rattle.reader.proofs.kinds.time_at.Tie as tie
-use Rattle.reader.proofs.kinds.time_at.Reads as reads
-use Rattle.reader.proofs.kinds.time_at.Lts as lts
-use Rattle.groups.proofs.time_word.Reads as time-word-reads
-use Rattle.reader.proofs.fixed.word.Reads as word-reads
 
--- src/kinds.rt:311:9
 word-requires : tie.Need-word-requires
 word-requires c κs = search needs
 
--- src/kinds.rt:314:26
 sub-time-word : tie.Need-sub-time-word
 sub-time-word c = search needs
 
--- src/kinds.rt:314:26
 part-time-word-start : tie.Need-part-time-word-start
 part-time-word-start c = search needs
 
--- src/kinds.rt:314:26
 part-time-word-end : tie.Need-part-time-word-end
 part-time-word-end c = search needs
 
--- src/kinds.rt:314:9
 time-word-requires : tie.Need-time-word-requires
 time-word-requires c κs = search needs
 
--- src/kinds.rt:316:9
 returns : tie.Need-returns
-returns c = ?
+returns c = told-no time-told (search needs) (c .before .before .before .before .word .ensures) (c .before .before .time-word .ensures) (c .if1 .taken)
 
--- src/kinds.rt:307:1
 returns-2 : tie.Need-returns-2
-returns-2 c = ?
+returns-2 c = told-yes time-told (search needs) (c .before .before .before .before .word .ensures) (c .before .before .time-word .ensures) (c .if1 .left)
 
 pub time-at-spec : {M : Type 1} → statement M
 time-at-spec =
