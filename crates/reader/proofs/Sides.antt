@@ -1,13 +1,24 @@
--- One word of a location, in a report and in a forecast alike: what the location does with it is what the machine does.
+-- One word of a location, in a report and in a forecast alike: what the location does with it is what the machine does. And the letter of a
+-- side, told by the word's code.
 -- Assumes nothing.
 use mathlib.Core.Bool.{Bool, true, false}
-use mathlib.Core.List.{List}
-use mathlib.Core.Path.{_≡_, refl, ap, _∙_}
-use Prim.Native.Nat.{ℕ}
-use Rattle.lists.specs.Lists.{same}
+use mathlib.Core.List.{List, [], _∷_}
+use mathlib.Core.Path.{_≡_, refl, ap, sym, _∙_}
+use Prim.Native.Nat.{ℕ, _+_, _≤_, _<_}
+use native.Mathlib.Omega.{arith}
+use lib.ListN.{length, getD}
+use borrow.Author.Tests.{lt-ltb, eq-eqb, ne-eqb}
+use Rattle.lists.specs.Base.{worthAfter}
+use Rattle.lists.specs.Lists.{allOf, same}
+use Rattle.lists.proofs.Choice.{by, either-right, either-cases, pick-true, pick-false}
+use Rattle.lists.proofs.Lists.{same-refl, same-is}
+use Rattle.figures.specs.Keywords.{codeOf}
+use Rattle.figures.proofs.Keywords.{code-tells}
+use Rattle.coordinates.specs.Coordinates.{Axis}
+use Rattle.message.specs.Limits.{cta}
 use Rattle.message.specs.declared.Extent.{Extent}
 use Rattle.grammar.specs.Numbers.{followingPart, placeNumber, numberOf}
-use Rattle.grammar.specs.Placing.{Placed, onIf, thereIf, placeStep}
+use Rattle.grammar.specs.Placing.{onIf, thereIf, sideWord, entireWord, placeStep}
 use Rattle.grammar.specs.Placing.Placed.{on, there, past, nowhere}
 use Rattle.grammar.specs.States.{Site, Placing}
 use Rattle.grammar.specs.States.Site.{inReport, inForecast}
@@ -15,7 +26,11 @@ use Rattle.grammar.specs.States.State.{atPlace}
 use Rattle.grammar.specs.States.Move.{goes, dead}
 use Rattle.grammar.specs.Steps.{goesIf, closingAt, after, stepAfter, settled, step}
 use Rattle.reader.specs.Going.{Goes, wordFrom}
-use Rattle.reader.specs.Kinds.{Required, FixedWord, Fixed}
+use Rattle.reader.specs.Kinds.{Required, FixedWord, Fixed, CodeAt}
+use Rattle.reader.specs.Locations.{sideIn, SideSays}
+use Rattle.reader.proofs.FixedWords.{fixed-fir, fixed-cta}
+use Rattle.reader.proofs.Going.{some-word}
+use Rattle.reader.proofs.KindLaws.{goes-word}
 
 -- the number of what follows a location
 pub following-number : (site : Site) (e : Extent) → numberOf (after site e) ≡ followingPart site
@@ -86,3 +101,63 @@ module _ {A : Type 0} {read : List ℕ → A} {good : A → Bool} {refusal : ℕ
   required-there e j =
       let v : A = read (wordFrom t at) in
       h .says (atPlace site p) (λ (v : A). after site (e v)) (there-if-step site p (wordFrom t at) (good v) (e v) j) n
+
+-- a word of one letter, and its code
+letter-code : (b : ℕ) → b < 256 → FixedWord (b ∷ []) (256 + b)
+unfolding codeOf allOf worthAfter same
+letter-code b h = record { is-short = rw (lt-ltb b 256 h); has = rw (lt-ltb b 256 h); some = refl }
+
+letter-tells : (w : List ℕ) (b : ℕ) → b < 256 → codeOf w ≡ 256 + b → w ≡ b ∷ []
+letter-tells w b h e = code-tells w (b ∷ []) (letter-code b h .is-short) (e ∙ sym (letter-code b h .has))
+
+letter-not : (w : List ℕ) (b : ℕ) → b < 256 → (codeOf w ≡ 256 + b → ⊥) → same w (b ∷ []) ≡ false
+letter-not w b h n =
+    by (same w (b ∷ [])) (λ y. absurd (n (ap codeOf (same-is w (b ∷ []) y) ∙ letter-code b h .has))) (λ f. f)
+
+-- the letter of a side is not 0
+some-letter : (a : Axis) (w : List ℕ) → 0 < a .plus → 0 < a .minus → sideWord a w ≡ true → getD w 0 0 ≡ 0 → ⊥
+some-letter a w p m y z =
+    either-cases (same w (a .plus ∷ [])) (same w (a .minus ∷ [])) y
+    (λ e. let i : getD w 0 0 ≡ a .plus = rw (same-is w (a .plus ∷ []) e) in omega arith)
+    (λ e. let i : getD w 0 0 ≡ a .minus = rw (same-is w (a .minus ∷ []) e) in omega arith)
+
+-- the letter of a side, by the code of its word
+module _ {code : ℕ} (plus minus : ℕ) (p : plus < 256) (m : minus < 256) where
+  pub side-plus : code ≡ 256 + plus → SideSays code plus minus plus
+  side-plus e = record { says = λ w d. let i : w ≡ plus ∷ [] = letter-tells w plus p (sym d ∙ e) in rw (i, same-refl (plus ∷ [])) }
+
+  pub side-minus : code ≡ 256 + minus → SideSays code plus minus minus
+  side-minus e = record {
+    says = λ w d.
+        let i : w ≡ minus ∷ [] = letter-tells w minus m (sym d ∙ e) in
+        rw (i, either-right (same (minus ∷ []) (plus ∷ [])) (same-refl (minus ∷ [])));
+  }
+
+  pub side-neither : (code ≡ 256 + plus → ⊥) → (code ≡ 256 + minus → ⊥) → SideSays code plus minus 0
+  side-neither e f = record { says = λ w d. rw (letter-not w plus p (λ q. e (d ∙ q)), letter-not w minus m (λ q. f (d ∙ q))) }
+
+-- what that letter tells of the word
+module _ {t : List ℕ} {at start end code letter : ℕ} (h : at ≤ length t) (c : CodeAt t at start end code) (a : Axis)
+    (s : SideSays code (a .plus) (a .minus) letter) where
+  letter-is : letter ≡ sideIn (a .plus) (a .minus) (wordFrom t at)
+  letter-is = s .says (wordFrom t at) (c .coded)
+
+  pub side-no : 0 < a .plus → 0 < a .minus → letter ≡ 0 → sideWord a (wordFrom t at) ≡ false
+  side-no p m z = by (sideWord a (wordFrom t at)) (λ y. absurd (some-letter a (wordFrom t at) p m y (sym (letter-is ∙ pick-true _ _ y) ∙ z))) (λ n. n)
+
+  pub side-on : (letter ≡ 0 → ⊥) → (site : Site) (p : Placing) (next : ℕ → Placing)
+      → (sideWord a (wordFrom t at) ≡ true → placeStep (closingAt site) p (wordFrom t at) ≡ on (next (getD (wordFrom t at) 0 0)))
+      → Goes (atPlace site p) t at 0 end (atPlace site (next letter))
+  unfolding same
+  side-on n site p next j =
+      by (sideWord a (wordFrom t at))
+      (λ y. goes-word h (c .word) (atPlace site p) (atPlace site (next letter)) (some-word (sideWord a) (wordFrom t at) refl y)
+        (on-step site p (wordFrom t at) (j y ∙ ap (λ (x : ℕ). on (next x)) (sym (letter-is ∙ pick-true _ _ y)))))
+      (λ f. absurd (n (letter-is ∙ pick-false _ _ f)))
+
+-- the word after `ENTIRE`
+pub entire-cta : (closing : ℕ) → closing ≡ cta → FixedWord (entireWord closing) 0x01435441
+entire-cta closing e = rw (eq-eqb closing cta e) fixed-cta
+
+pub entire-fir : (closing : ℕ) → (closing ≡ cta → ⊥) → FixedWord (entireWord closing) 0x01464952
+entire-fir closing n = rw (ne-eqb closing cta n) fixed-fir

@@ -1,3 +1,4 @@
+-- `no_volcano` meets its contract: no name and no point. Assumes nothing.
 use borrow.Author.Needs.{needs}
 use Rattle.reader.proofs.empties.no_volcano.Statement.{statement}
 use Rattle.reader.proofs.empties.no_volcano.Tie as tie
@@ -16,7 +17,7 @@ no-point-requires c κs = search needs
 
 -- src/empties.rt:55:1
 returns : tie.Need-returns
-returns c = ?
+returns c = rw (c .before .no-name .ensures, c .no-point .ensures)
 
 pub no-volcano-spec : {M : Type 1} → statement M
 no-volcano-spec = tie.close (tie.spec no-name-requires no-point-requires returns)

@@ -1,3 +1,4 @@
+-- `bounded` meets its contract: the points are those of no extent. Assumes nothing.
 use borrow.Author.Needs.{needs}
 use Rattle.reader.proofs.locating.bounded.Statement.{statement}
 use Rattle.reader.proofs.locating.bounded.Tie as tie
@@ -11,7 +12,7 @@ no-extent-requires c κs = search needs
 
 -- src/locating.rt:40:1
 returns : tie.Need-returns
-returns c = ?
+returns c = rw (c .before .no-extent .ensures)
 
 pub bounded-spec : {M : Type 1} → statement M
 bounded-spec = tie.close (tie.spec no-extent-requires returns)

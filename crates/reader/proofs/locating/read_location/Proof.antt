@@ -1,4 +1,18 @@
+-- `read_location` meets its contract: the first word chooses, in the order of the machine. Assumes nothing.
 use borrow.Author.Needs.{needs}
+use mathlib.Core.List.{[]}
+use mathlib.Core.Path.{refl}
+use lib.Dec.{lit<}
+use Rattle.lists.specs.Text.{bytes}
+use Rattle.coordinates.specs.Coordinates.{northSouth, eastWest}
+use Rattle.message.specs.Locations.{noSide}
+use Rattle.grammar.specs.Placing.{locating, placeStep}
+use Rattle.grammar.specs.States.Placing.{atLocation, atLatitudeOf, atLongitudeOf, atEntire, atLatitude}
+use Rattle.grammar.specs.States.State.{atPlace}
+use Rattle.reader.proofs.Chains.{on}
+use Rattle.reader.proofs.FixedWords.{fixed-entire, fixed-wi}
+use Rattle.reader.proofs.KindLaws.{is-yes, is-no, goes-fixed, dead-word}
+use Rattle.reader.proofs.Sides.{on-step, nowhere-step, side-no, side-on}
 use Rattle.reader.proofs.locating.read_location.Statement.{statement}
 use Rattle.reader.proofs.locating.read_location.Tie as tie
 use Rattle.reader.proofs.locating.read_location.Reads as reads
@@ -26,7 +40,13 @@ read-north-requires c κs = search needs
 
 -- src/locating.rt:171:9
 returns : tie.Need-returns
-returns c = ?
+unfolding placeStep locating
+returns c =
+    record {
+      says = λ site q n. on (side-on (search needs) (c .before .before .before .code-at .ensures) northSouth (c .before .before .side-letter .ensures) (c .before .if1 .taken) site atLocation atLatitudeOf (λ y. rw y)) refl
+          (c .read-north .ensures .says site n);
+      within = search needs;
+    }
 
 -- src/locating.rt:173:9
 side-letter-requires-2 : tie.Need-side-letter-requires-2
@@ -42,6 +62,7 @@ read-east-requires c κs = search needs
 
 -- src/locating.rt:176:9
 returns-2 : tie.Need-returns-2
+unfolding placeStep locating
 returns-2 c = ?
 
 -- src/locating.rt:179:9
@@ -50,6 +71,7 @@ read-entire-requires c κs = search needs
 
 -- src/locating.rt:179:9
 returns-3 : tie.Need-returns-3
+unfolding placeStep locating
 returns-3 c = ?
 
 -- src/locating.rt:182:9
@@ -58,6 +80,7 @@ read-outline-requires c κs = search needs
 
 -- src/locating.rt:182:9
 returns-4 : tie.Need-returns-4
+unfolding placeStep locating
 returns-4 c = ?
 
 -- src/locating.rt:184:9
@@ -66,6 +89,7 @@ no-extent-requires c κs = search needs
 
 -- src/locating.rt:164:1
 returns-5 : tie.Need-returns-5
+unfolding placeStep locating
 returns-5 c = ?
 
 pub read-location-spec : {M : Type 1} → statement M
