@@ -14,13 +14,17 @@ use Rattle.lists.proofs.Choice.{by, either-right, either-cases, pick-true, pick
 use Rattle.lists.proofs.Lists.{same-refl, same-is}
 use Rattle.figures.specs.Keywords.{codeOf}
 use Rattle.figures.proofs.Keywords.{code-tells}
-use Rattle.coordinates.specs.Coordinates.{Axis}
+use Rattle.coordinates.specs.Coordinates.{Axis, northSouth, eastWest, coordinateOf, goodCoordinate}
+use Rattle.coordinates.specs.declared.Coordinate.{Coordinate}
 use Rattle.message.specs.Limits.{cta}
 use Rattle.message.specs.declared.Extent.{Extent}
-use Rattle.grammar.specs.Numbers.{followingPart, placeNumber, numberOf}
+use Rattle.message.specs.declared.Side.{Side}
+use Rattle.grammar.specs.Numbers.{locationPart, followingPart, placeNumber, numberOf}
 use Rattle.grammar.specs.Placing.{onIf, thereIf, sideWord, entireWord, placeStep}
 use Rattle.grammar.specs.Placing.Placed.{on, there, past, nowhere}
+use Rattle.grammar.specs.Records.{bounded}
 use Rattle.grammar.specs.States.{Site, Placing}
+use Rattle.grammar.specs.States.Placing.{atLatitudeOf, atLatitudeBound, atAnd, atLongitudeOf, atLongitudeBound}
 use Rattle.grammar.specs.States.Site.{inReport, inForecast}
 use Rattle.grammar.specs.States.State.{atPlace}
 use Rattle.grammar.specs.States.Move.{goes, dead}
@@ -28,7 +32,7 @@ use Rattle.grammar.specs.Steps.{goesIf, closingAt, after, stepAfter, settled, s
 use Rattle.reader.specs.Going.{Goes, wordFrom}
 use Rattle.reader.specs.Kinds.{Required, FixedWord, Fixed, CodeAt}
 use Rattle.reader.specs.Locations.{sideIn, SideSays}
-use Rattle.reader.proofs.FixedWords.{fixed-fir, fixed-cta}
+use Rattle.reader.proofs.FixedWords.{fixed-of, fixed-fir, fixed-cta}
 use Rattle.reader.proofs.Going.{some-word}
 use Rattle.reader.proofs.KindLaws.{goes-word}
 
@@ -101,6 +105,31 @@ module _ {A : Type 0} {read : List ℕ → A} {good : A → Bool} {refusal : ℕ
   required-there e j =
       let v : A = read (wordFrom t at) in
       h .says (atPlace site p) (λ (v : A). after site (e v)) (there-if-step site p (wordFrom t at) (good v) (e v) j) n
+
+-- `OF` and the coordinate of a bound
+module _ {refusal : ℕ} {t : List ℕ} {at number place : ℕ} where
+  pub latitude-of : Fixed 0x014f46 refusal t at number place → (site : Site) {side : ℕ} → locationPart site ≡ refusal
+      → Goes (atPlace site (atLatitudeOf side)) t at number place (atPlace site (atLatitudeBound side))
+  unfolding placeStep
+  latitude-of h site {side} n = fixed-on h fixed-of site (atLatitudeOf side) n (atLatitudeBound side) refl
+
+  pub longitude-of : Fixed 0x014f46 refusal t at number place → (site : Site) {north : Side} {side : ℕ} → locationPart site ≡ refusal
+      → Goes (atPlace site (atLongitudeOf north side)) t at number place (atPlace site (atLongitudeBound north side))
+  unfolding placeStep
+  longitude-of h site {north} {side} n = fixed-on h fixed-of site (atLongitudeOf north side) n (atLongitudeBound north side) refl
+
+  module _ {value : Coordinate} where
+    pub latitude-bound : Required (coordinateOf northSouth) (goodCoordinate northSouth) refusal t at number place value → (site : Site) {side : ℕ}
+        → locationPart site ≡ refusal → Goes (atPlace site (atLatitudeBound side)) t at number place (atPlace site (atAnd (record { of = side; at = value })))
+    unfolding placeStep
+    latitude-bound h site {side} n = required-on h site (atLatitudeBound side) n (λ (v : Coordinate). atAnd (record { of = side; at = v })) refl
+
+    pub longitude-bound : Required (coordinateOf eastWest) (goodCoordinate eastWest) refusal t at number place value → (site : Site) {north : Side} {side : ℕ}
+        → locationPart site ≡ refusal
+        → Goes (atPlace site (atLongitudeBound north side)) t at number place (after site (bounded north (record { of = side; at = value })))
+    unfolding placeStep
+    longitude-bound h site {north} {side} n =
+        required-there h site (atLongitudeBound north side) n (λ (v : Coordinate). bounded north (record { of = side; at = v })) refl
 
 -- a word of one letter, and its code
 letter-code : (b : ℕ) → b < 256 → FixedWord (b ∷ []) (256 + b)

@@ -1,13 +1,7 @@
 -- `read_east` meets its contract: OF and the longitude are the two words of the location from there. Assumes nothing.
 use borrow.Author.Needs.{needs}
-use mathlib.Core.Path.{refl}
-use Rattle.coordinates.specs.declared.Coordinate.{Coordinate}
-use Rattle.grammar.specs.Placing.{placeStep}
-use Rattle.grammar.specs.Records.{bounded}
-use Rattle.grammar.specs.States.Placing.{atLongitudeOf, atLongitudeBound}
 use Rattle.reader.proofs.Chains.{on, off}
-use Rattle.reader.proofs.FixedWords.{fixed-of}
-use Rattle.reader.proofs.Sides.{fixed-on, required-there}
+use Rattle.reader.proofs.Sides.{longitude-of, longitude-bound}
 use Rattle.reader.proofs.locating.read_east.Statement.{statement}
 use Rattle.reader.proofs.locating.read_east.Tie as tie
 use Rattle.reader.proofs.locating.read_east.Reads as reads
@@ -27,13 +21,7 @@ no-extent-requires c κs = search needs
 
 -- src/locating.rt:63:9
 returns : tie.Need-returns
-unfolding placeStep
-returns c =
-    let args = c .before .before .before .before .before .args in
-    record {
-      says = λ site n. off (fixed-on (c .before .before .before .fixed-at .ensures) fixed-of site (atLongitudeOf (args .north) (args .side)) n (atLongitudeBound (args .north) (args .side)) refl) (c .before .if1 .taken);
-      within = search needs;
-    }
+returns c = record { says = λ site n. off (longitude-of (c .before .before .before .fixed-at .ensures) site n) (c .before .if1 .taken); within = search needs }
 
 -- src/locating.rt:69:9
 longitude-at-requires : tie.Need-longitude-at-requires
@@ -45,15 +33,11 @@ bounded-requires c κs = search needs
 
 -- src/locating.rt:56:1
 returns-2 : tie.Need-returns-2
-unfolding placeStep
-returns-2 c =
-    let args = c .before .before .before .before .before .before .before .args in
-    record {
-      says = λ site n. rw (c .bounded .ensures)
-          (on (fixed-on (c .before .before .before .before .before .fixed-at .ensures) fixed-of site (atLongitudeOf (args .north) (args .side)) n (atLongitudeBound (args .north) (args .side)) refl) (c .before .before .before .if1 .left)
-          (required-there (c .before .before .longitude-at .ensures) site (atLongitudeBound (args .north) (args .side)) n (λ (v : Coordinate). bounded (args .north) (record { of = args .side; at = v })) refl));
-      within = search needs;
-    }
+returns-2 c = record {
+  says = λ site n. rw (c .bounded .ensures)
+      (on (longitude-of (c .before .before .before .before .before .fixed-at .ensures) site n) (c .before .before .before .if1 .left) (longitude-bound (c .before .before .longitude-at .ensures) site n));
+  within = search needs;
+}
 
 pub read-east-spec : {M : Type 1} → statement M
 read-east-spec =

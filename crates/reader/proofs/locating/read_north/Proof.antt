@@ -1,12 +1,7 @@
 -- `read_north` meets its contract: OF, the latitude and what may follow, one after the other. Assumes nothing.
 use borrow.Author.Needs.{needs}
-use mathlib.Core.Path.{refl}
-use Rattle.coordinates.specs.declared.Coordinate.{Coordinate}
-use Rattle.grammar.specs.Placing.{placeStep}
-use Rattle.grammar.specs.States.Placing.{atLatitudeOf, atLatitudeBound, atAnd}
 use Rattle.reader.proofs.Chains.{on, off}
-use Rattle.reader.proofs.FixedWords.{fixed-of}
-use Rattle.reader.proofs.Sides.{fixed-on, required-on}
+use Rattle.reader.proofs.Sides.{latitude-of, latitude-bound}
 use Rattle.reader.proofs.locating.read_north.Statement.{statement}
 use Rattle.reader.proofs.locating.read_north.Tie as tie
 use Rattle.reader.proofs.locating.read_north.Reads as reads
@@ -26,13 +21,7 @@ no-extent-requires c κs = search needs
 
 -- src/locating.rt:124:9
 returns : tie.Need-returns
-unfolding placeStep
-returns c =
-    let side = c .before .before .before .before .before .args .side in
-    record {
-      says = λ site n. off (fixed-on (c .before .before .before .fixed-at .ensures) fixed-of site (atLatitudeOf side) n (atLatitudeBound side) refl) (c .before .if1 .taken);
-      within = search needs;
-    }
+returns c = record { says = λ site n. off (latitude-of (c .before .before .before .fixed-at .ensures) site n) (c .before .if1 .taken); within = search needs }
 
 -- src/locating.rt:130:9
 latitude-at-requires : tie.Need-latitude-at-requires
@@ -44,16 +33,12 @@ no-extent-requires-2 c κs = search needs
 
 -- src/locating.rt:133:9
 returns-2 : tie.Need-returns-2
-unfolding placeStep
-returns-2 c =
-    let side = c .before .before .before .before .before .before .before .before .args .side in
-    record {
-      says = λ site n. off
-          (on (fixed-on (c .before .before .before .before .before .before .fixed-at .ensures) fixed-of site (atLatitudeOf side) n (atLatitudeBound side) refl) (c .before .before .before .before .if1 .left)
-          (required-on (c .before .before .before .latitude-at .ensures) site (atLatitudeBound side) n (λ (v : Coordinate). atAnd (record { of = side; at = v })) refl))
-          (c .before .if2 .taken);
-      within = search needs;
-    }
+returns-2 c = record {
+  says = λ site n. off
+      (on (latitude-of (c .before .before .before .before .before .before .fixed-at .ensures) site n) (c .before .before .before .before .if1 .left) (latitude-bound (c .before .before .before .latitude-at .ensures) site n))
+      (c .before .if2 .taken);
+  within = search needs;
+}
 
 -- src/locating.rt:141:5
 read-after-north-requires : tie.Need-read-after-north-requires
@@ -61,15 +46,12 @@ read-after-north-requires c κs = search needs
 
 -- src/locating.rt:117:1
 returns-3 : tie.Need-returns-3
-unfolding placeStep
-returns-3 c =
-    let side = c .before .before .before .before .before .before .before .before .before .args .side in
-    record {
-      says = λ site n. on (fixed-on (c .before .before .before .before .before .before .before .fixed-at .ensures) fixed-of site (atLatitudeOf side) n (atLatitudeBound side) refl) (c .before .before .before .before .before .if1 .left)
-          (on (required-on (c .before .before .before .before .latitude-at .ensures) site (atLatitudeBound side) n (λ (v : Coordinate). atAnd (record { of = side; at = v })) refl) (c .before .before .if2 .left)
-          (c .read-after-north .ensures .says site n));
-      within = search needs;
-    }
+returns-3 c = record {
+  says = λ site n. on (latitude-of (c .before .before .before .before .before .before .before .fixed-at .ensures) site n) (c .before .before .before .before .before .if1 .left)
+      (on (latitude-bound (c .before .before .before .before .latitude-at .ensures) site n) (c .before .before .if2 .left)
+      (c .read-after-north .ensures .says site n));
+  within = search needs;
+}
 
 pub read-north-spec : {M : Type 1} → statement M
 read-north-spec =
