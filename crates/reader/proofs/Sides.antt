@@ -98,13 +98,13 @@ module _ {A : Type 0} {read : List ℕ → A} {good : A → Bool} {refusal : ℕ
       → Goes (atPlace site p) t at number place (atPlace site (next value))
   required-on next j =
       let v : A = read (wordFrom t at) in
-      h .says (atPlace site p) (λ (v : A). atPlace site (next v)) (on-if-step site p (wordFrom t at) (good v) (next v) j) n
+      h .says (atPlace site p) (λ (x : A). atPlace site (next x)) (on-if-step site p (wordFrom t at) (good v) (next v) j) n
 
   pub required-there : (e : A → Extent) → placeStep (closingAt site) p (wordFrom t at) ≡ thereIf (good (read (wordFrom t at))) (e (read (wordFrom t at)))
       → Goes (atPlace site p) t at number place (after site (e value))
   required-there e j =
       let v : A = read (wordFrom t at) in
-      h .says (atPlace site p) (λ (v : A). after site (e v)) (there-if-step site p (wordFrom t at) (good v) (e v) j) n
+      h .says (atPlace site p) (λ (x : A). after site (e x)) (there-if-step site p (wordFrom t at) (good v) (e v) j) n
 
 -- `OF` and the coordinate of a bound
 module _ {refusal : ℕ} {t : List ℕ} {at number place : ℕ} where
@@ -181,7 +181,7 @@ module _ {t : List ℕ} {at start end code letter : ℕ} (h : at ≤ length t) (
   side-on n site p next j =
       by (sideWord a (wordFrom t at))
       (λ y. goes-word h (c .word) (atPlace site p) (atPlace site (next letter)) (some-word (sideWord a) (wordFrom t at) refl y)
-        (on-step site p (wordFrom t at) (j y ∙ ap (λ (x : ℕ). on (next x)) (sym (letter-is ∙ pick-true _ _ y)))))
+      (on-step site p (wordFrom t at) (j y ∙ ap (λ (x : ℕ). on (next x)) (sym (letter-is ∙ pick-true _ _ y)))))
       (λ f. absurd (n (letter-is ∙ pick-false _ _ f)))
 
 -- the word after `ENTIRE`

@@ -2,9 +2,6 @@
 use borrow.Author.Needs.{needs}
 use Rattle.reader.proofs.empties.no_extent.Statement.{statement}
 use Rattle.reader.proofs.empties.no_extent.Tie as tie
-use Rattle.reader.proofs.empties.no_extent.Reads as reads
-use Rattle.reader.proofs.empties.no_extent.Lts as lts
-use Rattle.reader.proofs.empties.no_point.Reads as no-point-reads
 
 -- src/empties.rt:66:9
 no-point-requires : tie.Need-no-point-requires

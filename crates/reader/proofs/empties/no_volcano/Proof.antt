@@ -2,10 +2,6 @@
 use borrow.Author.Needs.{needs}
 use Rattle.reader.proofs.empties.no_volcano.Statement.{statement}
 use Rattle.reader.proofs.empties.no_volcano.Tie as tie
-use Rattle.reader.proofs.empties.no_volcano.Reads as reads
-use Rattle.reader.proofs.empties.no_volcano.Lts as lts
-use Rattle.reader.proofs.empties.no_name.Reads as no-name-reads
-use Rattle.reader.proofs.empties.no_point.Reads as no-point-reads
 
 -- src/empties.rt:58:9
 no-name-requires : tie.Need-no-name-requires

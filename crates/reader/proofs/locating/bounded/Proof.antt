@@ -2,9 +2,6 @@
 use borrow.Author.Needs.{needs}
 use Rattle.reader.proofs.locating.bounded.Statement.{statement}
 use Rattle.reader.proofs.locating.bounded.Tie as tie
-use Rattle.reader.proofs.locating.bounded.Reads as reads
-use Rattle.reader.proofs.locating.bounded.Lts as lts
-use Rattle.reader.proofs.empties.no_extent.Reads as no-extent-reads
 
 -- src/locating.rt:43:9
 no-extent-requires : tie.Need-no-extent-requires

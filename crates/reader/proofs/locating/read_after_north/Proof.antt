@@ -13,12 +13,6 @@ use Rattle.reader.proofs.FixedWords.{fixed-and}
 use Rattle.reader.proofs.Sides.{following-number, on-step, past-step}
 use Rattle.reader.proofs.locating.read_after_north.Statement.{statement}
 use Rattle.reader.proofs.locating.read_after_north.Tie as tie
-use Rattle.reader.proofs.locating.read_after_north.Reads as reads
-use Rattle.reader.proofs.locating.read_after_north.Lts as lts
-use Rattle.reader.proofs.empties.no_side.Reads as no-side-reads
-use Rattle.reader.proofs.fixed.perhaps_at.Reads as perhaps-at-reads
-use Rattle.reader.proofs.locating.bounded.Reads as bounded-reads
-use Rattle.reader.proofs.locating.read_second.Reads as read-second-reads
 
 -- src/locating.rt:103:9
 perhaps-at-requires : tie.Need-perhaps-at-requires

@@ -4,12 +4,6 @@ use Rattle.reader.proofs.Chains.{on, off}
 use Rattle.reader.proofs.Sides.{longitude-of, longitude-bound}
 use Rattle.reader.proofs.locating.read_east.Statement.{statement}
 use Rattle.reader.proofs.locating.read_east.Tie as tie
-use Rattle.reader.proofs.locating.read_east.Reads as reads
-use Rattle.reader.proofs.locating.read_east.Lts as lts
-use Rattle.reader.proofs.empties.no_extent.Reads as no-extent-reads
-use Rattle.reader.proofs.fixed.fixed_at.Reads as fixed-at-reads
-use Rattle.reader.proofs.kinds.longitude_at.Reads as longitude-at-reads
-use Rattle.reader.proofs.locating.bounded.Reads as bounded-reads
 
 -- src/locating.rt:60:9
 fixed-at-requires : tie.Need-fixed-at-requires

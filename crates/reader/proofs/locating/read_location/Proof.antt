@@ -1,14 +1,14 @@
 -- `read_location` meets its contract: the first word chooses, in the order of the machine. Assumes nothing.
 use borrow.Author.Needs.{needs}
-use mathlib.Core.List.{[]}
 use mathlib.Core.Bool.{false}
+use mathlib.Core.List.{[]}
 use mathlib.Core.Path.{_≡_, refl}
 use lib.Dec.{lit<}
+use denote.Ref.{now}
 use Rattle.coordinates.specs.Coordinates.{northSouth, eastWest}
 use Rattle.grammar.specs.Placing.{sideWord, locating, placeStep}
 use Rattle.grammar.specs.States.Placing.{atLocation, atLatitudeOf, atLongitudeOf, atEntire, atLatitude}
 use Rattle.grammar.specs.States.State.{atPlace}
-use denote.Ref.{now}
 use Rattle.reader.specs.Going.{wordFrom}
 use Rattle.reader.proofs.Chains.{on}
 use Rattle.reader.proofs.FixedWords.{fixed-entire, fixed-wi}
@@ -16,16 +16,6 @@ use Rattle.reader.proofs.KindLaws.{is-yes, is-no, goes-fixed, dead-word
 use Rattle.reader.proofs.Sides.{on-step, nowhere-step, side-no, side-on}
 use Rattle.reader.proofs.locating.read_location.Statement.{statement}
 use Rattle.reader.proofs.locating.read_location.Tie as tie
-use Rattle.reader.proofs.locating.read_location.Reads as reads
-use Rattle.reader.proofs.locating.read_location.Lts as lts
-use Rattle.reader.proofs.empties.no_extent.Reads as no-extent-reads
-use Rattle.reader.proofs.empties.no_side.Reads as no-side-reads
-use Rattle.reader.proofs.fixed.code_at.Reads as code-at-reads
-use Rattle.reader.proofs.locating.read_east.Reads as read-east-reads
-use Rattle.reader.proofs.locating.read_entire.Reads as read-entire-reads
-use Rattle.reader.proofs.locating.read_north.Reads as read-north-reads
-use Rattle.reader.proofs.locating.side_letter.Reads as side-letter-reads
-use Rattle.reader.proofs.outlining.read_outline.Reads as read-outline-reads
 
 -- the first word is no letter of a latitude's side
 no-north : (c : tie.Else1) → sideWord northSouth (wordFrom (now (c .before .before .before .before .args .text)) (c .before .before .before .before .args .at)) ≡ false

@@ -4,12 +4,6 @@ use Rattle.reader.proofs.Chains.{on, off}
 use Rattle.reader.proofs.Sides.{latitude-of, latitude-bound}
 use Rattle.reader.proofs.locating.read_north.Statement.{statement}
 use Rattle.reader.proofs.locating.read_north.Tie as tie
-use Rattle.reader.proofs.locating.read_north.Reads as reads
-use Rattle.reader.proofs.locating.read_north.Lts as lts
-use Rattle.reader.proofs.empties.no_extent.Reads as no-extent-reads
-use Rattle.reader.proofs.fixed.fixed_at.Reads as fixed-at-reads
-use Rattle.reader.proofs.kinds.latitude_at.Reads as latitude-at-reads
-use Rattle.reader.proofs.locating.read_after_north.Reads as read-after-north-reads
 
 -- src/locating.rt:121:9
 fixed-at-requires : tie.Need-fixed-at-requires

@@ -11,12 +11,6 @@ use Rattle.reader.proofs.KindLaws.{dead-word}
 use Rattle.reader.proofs.Sides.{nowhere-step, side-no, side-on}
 use Rattle.reader.proofs.locating.read_second.Statement.{statement}
 use Rattle.reader.proofs.locating.read_second.Tie as tie
-use Rattle.reader.proofs.locating.read_second.Reads as reads
-use Rattle.reader.proofs.locating.read_second.Lts as lts
-use Rattle.reader.proofs.empties.no_extent.Reads as no-extent-reads
-use Rattle.reader.proofs.fixed.code_at.Reads as code-at-reads
-use Rattle.reader.proofs.locating.read_east.Reads as read-east-reads
-use Rattle.reader.proofs.locating.side_letter.Reads as side-letter-reads
 
 -- src/locating.rt:85:9
 code-at-requires : tie.Need-code-at-requires

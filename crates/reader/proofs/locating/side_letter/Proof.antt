@@ -3,8 +3,6 @@ use borrow.Author.Needs.{needs}
 use Rattle.reader.proofs.Sides.{side-plus, side-minus, side-neither}
 use Rattle.reader.proofs.locating.side_letter.Statement.{statement}
 use Rattle.reader.proofs.locating.side_letter.Tie as tie
-use Rattle.reader.proofs.locating.side_letter.Reads as reads
-use Rattle.reader.proofs.locating.side_letter.Lts as lts
 
 -- src/locating.rt:31:16
 add-if1 : tie.Need-add-if1
