@@ -1,9 +1,7 @@
+-- `no_extent` meets its contract: the points are none, seven times. Assumes nothing.
 use borrow.Author.Needs.{needs}
 use Rattle.reader.proofs.empties.no_extent.Statement.{statement}
 use Rattle.reader.proofs.empties.no_extent.Tie as tie
-use Rattle.reader.proofs.empties.no_extent.Reads as reads
-use Rattle.reader.proofs.empties.no_extent.Lts as lts
-use Rattle.reader.proofs.empties.no_point.Reads as no-point-reads
 
 -- src/empties.rt:66:9
 no-point-requires : tie.Need-no-point-requires
@@ -11,7 +9,7 @@ no-point-requires c κs = search needs
 
 -- src/empties.rt:63:1
 returns : tie.Need-returns
-returns c = ?
+returns c = rw (c .no-point .ensures)
 
 pub no-extent-spec : {M : Type 1} → statement M
 no-extent-spec = tie.close (tie.spec no-point-requires returns)

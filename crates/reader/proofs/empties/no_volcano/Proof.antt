@@ -1,10 +1,7 @@
+-- `no_volcano` meets its contract: no name and no point. Assumes nothing.
 use borrow.Author.Needs.{needs}
 use Rattle.reader.proofs.empties.no_volcano.Statement.{statement}
 use Rattle.reader.proofs.empties.no_volcano.Tie as tie
-use Rattle.reader.proofs.empties.no_volcano.Reads as reads
-use Rattle.reader.proofs.empties.no_volcano.Lts as lts
-use Rattle.reader.proofs.empties.no_name.Reads as no-name-reads
-use Rattle.reader.proofs.empties.no_point.Reads as no-point-reads
 
 -- src/empties.rt:58:9
 no-name-requires : tie.Need-no-name-requires
@@ -16,7 +13,7 @@ no-point-requires c κs = search needs
 
 -- src/empties.rt:55:1
 returns : tie.Need-returns
-returns c = ?
+returns c = rw (c .before .no-name .ensures, c .no-point .ensures)
 
 pub no-volcano-spec : {M : Type 1} → statement M
 no-volcano-spec = tie.close (tie.spec no-name-requires no-point-requires returns)

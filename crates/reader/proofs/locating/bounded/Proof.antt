@@ -1,9 +1,7 @@
+-- `bounded` meets its contract: the points are those of no extent. Assumes nothing.
 use borrow.Author.Needs.{needs}
 use Rattle.reader.proofs.locating.bounded.Statement.{statement}
 use Rattle.reader.proofs.locating.bounded.Tie as tie
-use Rattle.reader.proofs.locating.bounded.Reads as reads
-use Rattle.reader.proofs.locating.bounded.Lts as lts
-use Rattle.reader.proofs.empties.no_extent.Reads as no-extent-reads
 
 -- src/locating.rt:43:9
 no-extent-requires : tie.Need-no-extent-requires
@@ -11,7 +9,7 @@ no-extent-requires c κs = search needs
 
 -- src/locating.rt:40:1
 returns : tie.Need-returns
-returns c = ?
+returns c = rw (c .before .no-extent .ensures)
 
 pub bounded-spec : {M : Type 1} → statement M
 bounded-spec = tie.close (tie.spec no-extent-requires returns)

@@ -1,12 +1,18 @@
+-- `read_after_north` meets its contract: AND moves the location on, and any other word is what follows it. Assumes nothing.
 use borrow.Author.Needs.{needs}
+use borrow.Author.Tests.{not-true, not-false}
+use mathlib.Core.Path.{refl, sym}
+use Rattle.message.specs.Locations.{noSide}
+use Rattle.grammar.specs.Placing.{placeStep}
+use Rattle.grammar.specs.Records.{bounded}
+use Rattle.grammar.specs.States.Placing.{atAnd, atSecondBound}
+use Rattle.grammar.specs.States.State.{atPlace}
+use Rattle.grammar.specs.Steps.{after}
+use Rattle.reader.proofs.Chains.{on}
+use Rattle.reader.proofs.FixedWords.{fixed-and}
+use Rattle.reader.proofs.Sides.{following-number, on-step, past-step}
 use Rattle.reader.proofs.locating.read_after_north.Statement.{statement}
 use Rattle.reader.proofs.locating.read_after_north.Tie as tie
-use Rattle.reader.proofs.locating.read_after_north.Reads as reads
-use Rattle.reader.proofs.locating.read_after_north.Lts as lts
-use Rattle.reader.proofs.empties.no_side.Reads as no-side-reads
-use Rattle.reader.proofs.fixed.perhaps_at.Reads as perhaps-at-reads
-use Rattle.reader.proofs.locating.bounded.Reads as bounded-reads
-use Rattle.reader.proofs.locating.read_second.Reads as read-second-reads
 
 -- src/locating.rt:103:9
 perhaps-at-requires : tie.Need-perhaps-at-requires
@@ -22,7 +28,15 @@ bounded-requires c κs = search needs
 
 -- src/locating.rt:107:9
 returns : tie.Need-returns
-returns c = ?
+unfolding placeStep
+returns c =
+    let north = c .before .before .before .before .before .before .args .north in
+    record {
+      says = λ site n. rw (c .bounded .ensures, c .before .no-side .ensures)
+          (c .before .before .before .before .perhaps-at .ensures .without (search (not-true, needs)) _ fixed-and (atPlace site (atAnd north)) (after site (bounded north noSide))
+          (λ f. past-step site (atAnd north) _ (rw f)) (sym (following-number site (bounded north noSide))));
+      within = search needs;
+    }
 
 -- src/locating.rt:113:5
 read-second-requires : tie.Need-read-second-requires
@@ -30,7 +44,17 @@ read-second-requires c κs = search needs
 
 -- src/locating.rt:99:1
 returns-2 : tie.Need-returns-2
-returns-2 c = ?
+unfolding placeStep
+returns-2 c =
+    let north = c .before .before .before .before .before .args .north in
+    record {
+      says = λ site n. on
+          (c .before .before .before .perhaps-at .ensures .with (search (not-false, needs)) _ fixed-and (atPlace site (atAnd north)) (atPlace site (atSecondBound north))
+          (λ y. on-step site (atAnd north) _ (rw y)))
+          refl
+          (c .read-second .ensures .says site n);
+      within = search needs;
+    }
 
 pub read-after-north-spec : {M : Type 1} → statement M
 read-after-north-spec =

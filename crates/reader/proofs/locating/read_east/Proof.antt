@@ -1,12 +1,9 @@
+-- `read_east` meets its contract: OF and the longitude are the two words of the location from there. Assumes nothing.
 use borrow.Author.Needs.{needs}
+use Rattle.reader.proofs.Chains.{on, off}
+use Rattle.reader.proofs.Sides.{longitude-of, longitude-bound}
 use Rattle.reader.proofs.locating.read_east.Statement.{statement}
 use Rattle.reader.proofs.locating.read_east.Tie as tie
-use Rattle.reader.proofs.locating.read_east.Reads as reads
-use Rattle.reader.proofs.locating.read_east.Lts as lts
-use Rattle.reader.proofs.empties.no_extent.Reads as no-extent-reads
-use Rattle.reader.proofs.fixed.fixed_at.Reads as fixed-at-reads
-use Rattle.reader.proofs.kinds.longitude_at.Reads as longitude-at-reads
-use Rattle.reader.proofs.locating.bounded.Reads as bounded-reads
 
 -- src/locating.rt:60:9
 fixed-at-requires : tie.Need-fixed-at-requires
@@ -18,7 +15,7 @@ no-extent-requires c κs = search needs
 
 -- src/locating.rt:63:9
 returns : tie.Need-returns
-returns c = ?
+returns c = record { says = λ site n. off (longitude-of (c .before .before .before .fixed-at .ensures) site n) (c .before .if1 .taken); within = search needs }
 
 -- src/locating.rt:69:9
 longitude-at-requires : tie.Need-longitude-at-requires
@@ -30,7 +27,11 @@ bounded-requires c κs = search needs
 
 -- src/locating.rt:56:1
 returns-2 : tie.Need-returns-2
-returns-2 c = ?
+returns-2 c = record {
+  says = λ site n. rw (c .bounded .ensures)
+      (on (longitude-of (c .before .before .before .before .before .fixed-at .ensures) site n) (c .before .before .before .if1 .left) (longitude-bound (c .before .before .longitude-at .ensures) site n));
+  within = search needs;
+}
 
 pub read-east-spec : {M : Type 1} → statement M
 read-east-spec =

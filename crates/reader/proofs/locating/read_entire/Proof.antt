@@ -1,10 +1,13 @@
+-- `read_entire` meets its contract: the word that it asks for is the one of the area's closing word. Assumes nothing.
 use borrow.Author.Needs.{needs}
+use mathlib.Core.Logic.{⊎-elim}
+use Rattle.grammar.specs.Placing.{entireWord, placeStep}
+use Rattle.grammar.specs.Records.{entirely}
+use Rattle.grammar.specs.States.Placing.{atEntire}
+use Rattle.reader.specs.Kinds.{FixedWord}
+use Rattle.reader.proofs.Sides.{fixed-there, entire-cta, entire-fir}
 use Rattle.reader.proofs.locating.read_entire.Statement.{statement}
 use Rattle.reader.proofs.locating.read_entire.Tie as tie
-use Rattle.reader.proofs.locating.read_entire.Reads as reads
-use Rattle.reader.proofs.locating.read_entire.Lts as lts
-use Rattle.reader.proofs.empties.no_extent.Reads as no-extent-reads
-use Rattle.reader.proofs.fixed.fixed_at.Reads as fixed-at-reads
 
 -- src/locating.rt:150:9
 fixed-at-requires : tie.Need-fixed-at-requires
@@ -16,7 +19,16 @@ no-extent-requires c κs = search needs
 
 -- src/locating.rt:145:1
 returns : tie.Need-returns
-returns c = ?
+unfolding placeStep
+returns c =
+    let named = c .before .before .before .if1 in
+    let closing = c .before .before .before .before .before .args .closing in
+    let f : FixedWord (entireWord closing) (named .name) =
+    ⊎-elim (λ w. rw (w .1) (entire-cta closing (w .0 .taken))) (λ w. rw (w .1) (entire-fir closing (w .0 .left))) (named .came) in
+    record {
+      says = λ site q n. rw (c .before .no-extent .ensures) (fixed-there (c .before .before .fixed-at .ensures) f site atEntire n entirely (rw q));
+      within = search needs;
+    }
 
 pub read-entire-spec : {M : Type 1} → statement M
 read-entire-spec = tie.close (tie.spec fixed-at-requires no-extent-requires returns)

@@ -1,16 +1,29 @@
+-- `read_location` meets its contract: the first word chooses, in the order of the machine. Assumes nothing.
 use borrow.Author.Needs.{needs}
+use mathlib.Core.Bool.{false}
+use mathlib.Core.List.{[]}
+use mathlib.Core.Path.{_≡_, refl}
+use lib.Dec.{lit<}
+use denote.Ref.{now}
+use Rattle.coordinates.specs.Coordinates.{northSouth, eastWest}
+use Rattle.grammar.specs.Placing.{sideWord, locating, placeStep}
+use Rattle.grammar.specs.States.Placing.{atLocation, atLatitudeOf, atLongitudeOf, atEntire, atLatitude}
+use Rattle.grammar.specs.States.State.{atPlace}
+use Rattle.reader.specs.Going.{wordFrom}
+use Rattle.reader.proofs.Chains.{on}
+use Rattle.reader.proofs.FixedWords.{fixed-entire, fixed-wi}
+use Rattle.reader.proofs.KindLaws.{is-yes, is-no, goes-fixed, dead-word}
+use Rattle.reader.proofs.Sides.{on-step, nowhere-step, side-no, side-on}
 use Rattle.reader.proofs.locating.read_location.Statement.{statement}
 use Rattle.reader.proofs.locating.read_location.Tie as tie
-use Rattle.reader.proofs.locating.read_location.Reads as reads
-use Rattle.reader.proofs.locating.read_location.Lts as lts
-use Rattle.reader.proofs.empties.no_extent.Reads as no-extent-reads
-use Rattle.reader.proofs.empties.no_side.Reads as no-side-reads
-use Rattle.reader.proofs.fixed.code_at.Reads as code-at-reads
-use Rattle.reader.proofs.locating.read_east.Reads as read-east-reads
-use Rattle.reader.proofs.locating.read_entire.Reads as read-entire-reads
-use Rattle.reader.proofs.locating.read_north.Reads as read-north-reads
-use Rattle.reader.proofs.locating.side_letter.Reads as side-letter-reads
-use Rattle.reader.proofs.outlining.read_outline.Reads as read-outline-reads
+
+-- the first word is no letter of a latitude's side
+no-north : (c : tie.Else1) → sideWord northSouth (wordFrom (now (c .before .before .before .before .args .text)) (c .before .before .before .before .args .at)) ≡ false
+no-north c = side-no (search needs) (c .before .before .code-at .ensures) northSouth (c .before .side-letter .ensures) (lit< tt) (lit< tt) (c .if1 .left)
+
+-- … nor of a longitude's
+no-east : (c : tie.Else2) → sideWord eastWest (wordFrom (now (c .before .before .before .before .before .before .args .text)) (c .before .before .before .before .before .before .args .at)) ≡ false
+no-east c = side-no (search needs) (c .before .before .before .before .code-at .ensures) eastWest (c .before .side-letter2 .ensures) (lit< tt) (lit< tt) (c .if2 .left)
 
 -- src/locating.rt:168:9
 code-at-requires : tie.Need-code-at-requires
@@ -26,7 +39,13 @@ read-north-requires c κs = search needs
 
 -- src/locating.rt:171:9
 returns : tie.Need-returns
-returns c = ?
+unfolding placeStep locating
+returns c =
+    record {
+      says = λ site q n. on (side-on (search needs) (c .before .before .before .code-at .ensures) northSouth (c .before .before .side-letter .ensures) (c .before .if1 .taken) site atLocation atLatitudeOf (λ y. rw y)) refl
+          (c .read-north .ensures .says site n);
+      within = search needs;
+    }
 
 -- src/locating.rt:173:9
 side-letter-requires-2 : tie.Need-side-letter-requires-2
@@ -42,7 +61,15 @@ read-east-requires c κs = search needs
 
 -- src/locating.rt:176:9
 returns-2 : tie.Need-returns-2
-returns-2 c = ?
+unfolding placeStep locating
+returns-2 c = record {
+  says = λ site q n. on
+      (side-on (search needs) (c .before .before .before .before .before .before .code-at .ensures) eastWest (c .before .before .before .side-letter2 .ensures) (c .before .before .if2 .taken) site atLocation
+      (atLongitudeOf (c .before .no-side .result)) (λ y. rw (no-north (c .before .before .before .before), y, c .before .no-side .ensures)))
+      refl
+      (c .read-east .ensures .says site n);
+  within = search needs;
+}
 
 -- src/locating.rt:179:9
 read-entire-requires : tie.Need-read-entire-requires
@@ -50,7 +77,17 @@ read-entire-requires c κs = search needs
 
 -- src/locating.rt:179:9
 returns-3 : tie.Need-returns-3
-returns-3 c = ?
+unfolding placeStep locating
+returns-3 c =
+    let k = c .before .before .before .before .before .before .before .code-at .ensures in
+    record {
+      says = λ site q n. on
+          (goes-fixed (search needs) k fixed-entire (c .before .if3 .taken) (atPlace site atLocation) (atPlace site atEntire)
+          (on-step site atLocation _ (rw (no-north (c .before .before .before .before .before), no-east (c .before .before .before), is-yes (search needs) k fixed-entire (c .before .if3 .taken)))))
+          refl
+          (c .read-entire .ensures .says site q n);
+      within = search needs;
+    }
 
 -- src/locating.rt:182:9
 read-outline-requires : tie.Need-read-outline-requires
@@ -58,7 +95,18 @@ read-outline-requires c κs = search needs
 
 -- src/locating.rt:182:9
 returns-4 : tie.Need-returns-4
-returns-4 c = ?
+unfolding placeStep locating
+returns-4 c =
+    let k = c .before .before .before .before .before .before .before .before .before .code-at .ensures in
+    record {
+      says = λ site q n. on
+          (goes-fixed (search needs) k fixed-wi (c .before .if4 .taken) (atPlace site atLocation) (atPlace site (atLatitude []))
+          (on-step site atLocation _
+          (rw (no-north (c .before .before .before .before .before .before .before), no-east (c .before .before .before .before .before), is-no (search needs) k fixed-entire (c .before .before .before .if3 .left), is-yes (search needs) k fixed-wi (c .before .if4 .taken)))))
+          refl
+          (c .read-outline .ensures .says site n);
+      within = search needs;
+    }
 
 -- src/locating.rt:184:9
 no-extent-requires : tie.Need-no-extent-requires
@@ -66,7 +114,15 @@ no-extent-requires c κs = search needs
 
 -- src/locating.rt:164:1
 returns-5 : tie.Need-returns-5
-returns-5 c = ?
+unfolding placeStep locating
+returns-5 c =
+    let k = c .before .before .before .before .before .before .before .before .before .code-at .ensures in
+    record {
+      says = λ site q n. dead-word (search needs) (k .word) (atPlace site atLocation) _ _ n
+          (nowhere-step site atLocation _
+          (rw (no-north (c .before .before .before .before .before .before .before), no-east (c .before .before .before .before .before), is-no (search needs) k fixed-entire (c .before .before .before .if3 .left), is-no (search needs) k fixed-wi (c .before .if4 .left))));
+      within = search needs;
+    }
 
 pub read-location-spec : {M : Type 1} → statement M
 read-location-spec =

@@ -1,12 +1,9 @@
+-- `read_north` meets its contract: OF, the latitude and what may follow, one after the other. Assumes nothing.
 use borrow.Author.Needs.{needs}
+use Rattle.reader.proofs.Chains.{on, off}
+use Rattle.reader.proofs.Sides.{latitude-of, latitude-bound}
 use Rattle.reader.proofs.locating.read_north.Statement.{statement}
 use Rattle.reader.proofs.locating.read_north.Tie as tie
-use Rattle.reader.proofs.locating.read_north.Reads as reads
-use Rattle.reader.proofs.locating.read_north.Lts as lts
-use Rattle.reader.proofs.empties.no_extent.Reads as no-extent-reads
-use Rattle.reader.proofs.fixed.fixed_at.Reads as fixed-at-reads
-use Rattle.reader.proofs.kinds.latitude_at.Reads as latitude-at-reads
-use Rattle.reader.proofs.locating.read_after_north.Reads as read-after-north-reads
 
 -- src/locating.rt:121:9
 fixed-at-requires : tie.Need-fixed-at-requires
@@ -18,7 +15,7 @@ no-extent-requires c κs = search needs
 
 -- src/locating.rt:124:9
 returns : tie.Need-returns
-returns c = ?
+returns c = record { says = λ site n. off (latitude-of (c .before .before .before .fixed-at .ensures) site n) (c .before .if1 .taken); within = search needs }
 
 -- src/locating.rt:130:9
 latitude-at-requires : tie.Need-latitude-at-requires
@@ -30,7 +27,12 @@ no-extent-requires-2 c κs = search needs
 
 -- src/locating.rt:133:9
 returns-2 : tie.Need-returns-2
-returns-2 c = ?
+returns-2 c = record {
+  says = λ site n. off
+      (on (latitude-of (c .before .before .before .before .before .before .fixed-at .ensures) site n) (c .before .before .before .before .if1 .left) (latitude-bound (c .before .before .before .latitude-at .ensures) site n))
+      (c .before .if2 .taken);
+  within = search needs;
+}
 
 -- src/locating.rt:141:5
 read-after-north-requires : tie.Need-read-after-north-requires
@@ -38,7 +40,12 @@ read-after-north-requires c κs = search needs
 
 -- src/locating.rt:117:1
 returns-3 : tie.Need-returns-3
-returns-3 c = ?
+returns-3 c = record {
+  says = λ site n. on (latitude-of (c .before .before .before .before .before .before .before .fixed-at .ensures) site n) (c .before .before .before .before .before .if1 .left)
+      (on (latitude-bound (c .before .before .before .before .latitude-at .ensures) site n) (c .before .before .if2 .left)
+      (c .read-after-north .ensures .says site n));
+  within = search needs;
+}
 
 pub read-north-spec : {M : Type 1} → statement M
 read-north-spec =

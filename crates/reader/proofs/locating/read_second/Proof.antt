@@ -1,12 +1,16 @@
+-- `read_second` meets its contract: E or W moves the location on to OF, and any other word is refused. Assumes nothing.
 use borrow.Author.Needs.{needs}
+use mathlib.Core.Path.{refl}
+use lib.Dec.{lit<}
+use Rattle.coordinates.specs.Coordinates.{eastWest}
+use Rattle.grammar.specs.Placing.{placeStep}
+use Rattle.grammar.specs.States.Placing.{atSecondBound, atLongitudeOf}
+use Rattle.grammar.specs.States.State.{atPlace}
+use Rattle.reader.proofs.Chains.{on}
+use Rattle.reader.proofs.KindLaws.{dead-word}
+use Rattle.reader.proofs.Sides.{nowhere-step, side-no, side-on}
 use Rattle.reader.proofs.locating.read_second.Statement.{statement}
 use Rattle.reader.proofs.locating.read_second.Tie as tie
-use Rattle.reader.proofs.locating.read_second.Reads as reads
-use Rattle.reader.proofs.locating.read_second.Lts as lts
-use Rattle.reader.proofs.empties.no_extent.Reads as no-extent-reads
-use Rattle.reader.proofs.fixed.code_at.Reads as code-at-reads
-use Rattle.reader.proofs.locating.read_east.Reads as read-east-reads
-use Rattle.reader.proofs.locating.side_letter.Reads as side-letter-reads
 
 -- src/locating.rt:85:9
 code-at-requires : tie.Need-code-at-requires
@@ -22,7 +26,15 @@ no-extent-requires c κs = search needs
 
 -- src/locating.rt:89:9
 returns : tie.Need-returns
-returns c = ?
+unfolding placeStep
+returns c =
+    let k = c .before .before .before .code-at .ensures in
+    let place = atSecondBound (c .before .before .before .before .before .args .north) in
+    record {
+      says = λ site n. dead-word (search needs) (k .word) (atPlace site place) _ _ n
+          (nowhere-step site place _ (rw (side-no (search needs) k eastWest (c .before .before .side-letter .ensures) (lit< tt) (lit< tt) (c .before .if1 .taken))));
+      within = search needs;
+    }
 
 -- src/locating.rt:95:5
 read-east-requires : tie.Need-read-east-requires
@@ -30,7 +42,14 @@ read-east-requires c κs = search needs
 
 -- src/locating.rt:81:1
 returns-2 : tie.Need-returns-2
-returns-2 c = ?
+unfolding placeStep
+returns-2 c =
+    let north = c .before .before .before .before .before .args .north in
+    record {
+      says = λ site n. on (side-on (search needs) (c .before .before .before .code-at .ensures) eastWest (c .before .before .side-letter .ensures) (c .before .if1 .left) site (atSecondBound north) (atLongitudeOf north) (λ y. rw y)) refl
+          (c .read-east .ensures .says site n);
+      within = search needs;
+    }
 
 pub read-second-spec : {M : Type 1} → statement M
 read-second-spec =
