@@ -3,3 +3,5 @@ pub mod Chains
 pub mod KindLaws
 pub mod Tells
 pub mod FixedWords
+pub mod Closing
+pub mod Determined
