@@ -31,9 +31,10 @@ returns : tie.Need-returns
 unfolding step stepEnding
 returns c =
     let k = c .before .before .before .before .code-at .ensures in
+    let moves = c .before .before .if1 .taken in
     record {
       says = λ l w a e. rw (c .no-extent .ensures)
-          (on (goes-fixed (search needs) k fixed-mov (c .before .before .if1 .taken) (atEnding l) (atCompass l) (rw (is-yes (search needs) k fixed-mov (c .before .before .if1 .taken)))) refl
+          (on (goes-fixed (search needs) k fixed-mov moves (atEnding l) (atCompass l) (rw (is-yes (search needs) k fixed-mov moves))) refl
           (c .before .read-moving .ensures .says l));
       within = search needs;
     }
@@ -48,10 +49,13 @@ returns-2 : tie.Need-returns-2
 unfolding step stepEnding
 returns-2 c =
     let k = c .before .before .before .before .before .before .code-at .ensures in
-    let moves = c .before .before .before .before .if1 .left in
+    let stays = c .before .before .if2 .taken in
     record {
       says = λ l w a e. rw (c .no-extent2 .ensures)
-          (on (goes-fixed (search needs) k fixed-stnr (c .before .before .if2 .taken) (atEnding l) (atStationary l) (rw (is-no (search needs) k fixed-mov moves, is-yes (search needs) k fixed-stnr (c .before .before .if2 .taken)))) refl
+          (on
+          (goes-fixed (search needs) k fixed-stnr stays (atEnding l) (atStationary l)
+          (rw (is-no (search needs) k fixed-mov (c .before .before .before .before .if1 .left), is-yes (search needs) k fixed-stnr stays)))
+          refl
           (c .before .intensity-at .ensures .says (atStationary l) (λ i. atEnd (reportOf l (Stationary i) noExtent)) refl refl));
       within = search needs;
     }

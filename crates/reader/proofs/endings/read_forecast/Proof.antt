@@ -22,7 +22,8 @@ read-location-requires c κs = search needs
 returns-2 : tie.Need-returns-2
 returns-2 c =
     record {
-      says = λ l a e f. on (c .before .before .before .before .read-forecast-time .ensures .says l e f) (c .before .before .if1 .left) (c .before .read-location .ensures .says (inForecast l _) a refl);
+      says = λ l a e f. on (c .before .before .before .before .read-forecast-time .ensures .says l e f) (c .before .before .if1 .left)
+          (c .before .read-location .ensures .says (inForecast l _) a refl);
       within = search needs;
     }
 

@@ -35,7 +35,8 @@ module _ (c : tie.After-fixed-at) where
   to-word : (l : ToLevel) → Forecasts l (wordFrom (given .args .text .now) (given .args .at))
       → Goes (atEnding l) (given .args .text .now) (given .args .at) (c .fixed-at .result .number) (c .fixed-at .result .place) (atForecastAt l (first .intensity-at .result .intensity))
   unfolding step
-  to-word l f = on (first .intensity-at .ensures .says (atEnding l) (atForecast l) f refl) (c .before .if1 .left) (c .fixed-at .ensures .says _ fixed-fcst (atForecast l _) (atForecastAt l _) refl refl)
+  to-word l f = on (first .intensity-at .ensures .says (atEnding l) (atForecast l) f refl) (c .before .if1 .left)
+      (c .fixed-at .ensures .says _ fixed-fcst (atForecast l _) (atForecastAt l _) refl refl)
 
 returns-2 : tie.Need-returns-2
 returns-2 c =

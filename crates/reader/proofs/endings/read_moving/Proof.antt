@@ -38,7 +38,8 @@ module _ (c : tie.After-speed-at) where
   to-speed : (l : ToLevel)
       → Goes (atCompass l) (given .args .text .now) (given .args .at) (c .speed-at .result .number) (c .speed-at .result .place) (atMovingIntensity l point (c .speed-at .result .speed))
   unfolding step
-  to-speed l = on (first .compass-at .ensures .says (atCompass l) (atSpeed l) refl refl) (c .before .if1 .left) (c .speed-at .ensures .says (atSpeed l point) (atMovingIntensity l point) refl refl)
+  to-speed l = on (first .compass-at .ensures .says (atCompass l) (atSpeed l) refl refl) (c .before .if1 .left)
+      (c .speed-at .ensures .says (atSpeed l point) (atMovingIntensity l point) refl refl)
 
 returns-2 : tie.Need-returns-2
 returns-2 c =

@@ -35,7 +35,8 @@ returns c =
 returns-2 : tie.Need-returns-2
 returns-2 c =
     let number = c .before .flight-number .ensures ∙ ap flightOf (c .before .before .level-word .ensures) in
-    required-yes (search needs) (c .before .before .before .before .word .ensures) flightIn flight _ _ number flight-none (flight-yes _ _ number (c .if1 .left))
+    required-yes (search needs) (c .before .before .before .before .word .ensures) flightIn flight _ _ number flight-none
+    (flight-yes _ _ number (c .if1 .left))
 
 pub flight-at-spec : {M : Type 1} → statement M
 flight-at-spec =

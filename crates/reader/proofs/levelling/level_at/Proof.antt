@@ -28,12 +28,14 @@ empty-level-requires c κs = search needs
 returns : tie.Need-returns
 returns c =
     let level = c .before .before .level-word .ensures in
-    required-no (search needs) (c .before .before .before .before .word .ensures) levelOf goodLevelWord _ _ level (level-no _ (sym (c .before .empty-level .ensures) ∙ c .if1 .taken))
+    required-no (search needs) (c .before .before .before .before .word .ensures) levelOf goodLevelWord _ _ level
+    (level-no _ (sym (c .before .empty-level .ensures) ∙ c .if1 .taken))
 
 returns-2 : tie.Need-returns-2
 returns-2 c =
     let level = c .before .before .level-word .ensures in
-    required-yes (search needs) (c .before .before .before .before .word .ensures) levelOf goodLevelWord _ _ level level-none (level-yes _ _ level (sym (c .before .empty-level .ensures) ∙ c .if1 .left))
+    required-yes (search needs) (c .before .before .before .before .word .ensures) levelOf goodLevelWord _ _ level level-none
+    (level-yes _ _ level (sym (c .before .empty-level .ensures) ∙ c .if1 .left))
 
 pub level-at-spec : {M : Type 1} → statement M
 level-at-spec =

@@ -20,8 +20,9 @@ returns : tie.Need-returns
 unfolding step stepLevel
 returns c =
     let k = c .before .before .before .code-at .ensures in
+    let top = c .before .if1 .taken in
     record {
-      says = λ q. on (goes-fixed (search needs) k fixed-top (c .before .if1 .taken) (atLevel q) (atTop q) (rw (is-yes (search needs) k fixed-top (c .before .if1 .taken)))) refl (c .read-top .ensures .says q);
+      says = λ q. on (goes-fixed (search needs) k fixed-top top (atLevel q) (atTop q) (rw (is-yes (search needs) k fixed-top top))) refl (c .read-top .ensures .says q);
       within = search needs;
     }
 
@@ -32,8 +33,12 @@ returns-2 : tie.Need-returns-2
 unfolding step stepLevel
 returns-2 c =
     let k = c .before .before .before .before .before .code-at .ensures in
+    let above = c .before .if2 .taken in
     record {
-      says = λ q. on (goes-fixed (search needs) k fixed-abv (c .before .if2 .taken) (atLevel q) (atAbove q) (rw (is-no (search needs) k fixed-top (c .before .before .before .if1 .left), is-yes (search needs) k fixed-abv (c .before .if2 .taken)))) refl
+      says = λ q. on
+          (goes-fixed (search needs) k fixed-abv above (atLevel q) (atAbove q)
+          (rw (is-no (search needs) k fixed-top (c .before .before .before .if1 .left), is-yes (search needs) k fixed-abv above)))
+          refl
           (c .flight-at .ensures .says (atAbove q) (λ n. levelled q (AboveFlight n)) refl refl);
       within = search needs;
     }
@@ -46,7 +51,8 @@ unfolding step stepLevel
 returns-3 c =
     let k = c .before .before .before .before .before .code-at .ensures in
     record {
-      says = λ q. c .level-at .ensures .says (atLevel q) (levelled q) (rw (is-no (search needs) k fixed-top (c .before .before .before .if1 .left), is-no (search needs) k fixed-abv (c .before .if2 .left))) refl;
+      says = λ q. c .level-at .ensures .says (atLevel q) (levelled q)
+          (rw (is-no (search needs) k fixed-top (c .before .before .before .if1 .left), is-no (search needs) k fixed-abv (c .before .if2 .left))) refl;
       within = search needs;
     }
 

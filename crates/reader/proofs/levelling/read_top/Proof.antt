@@ -20,8 +20,9 @@ returns : tie.Need-returns
 unfolding step
 returns c =
     let k = c .before .before .before .code-at .ensures in
+    let above = c .before .if1 .taken in
     record {
-      says = λ q. on (goes-fixed (search needs) k fixed-abv (c .before .if1 .taken) (atTop q) (atTopAbove q) (rw (is-yes (search needs) k fixed-abv (c .before .if1 .taken)))) refl
+      says = λ q. on (goes-fixed (search needs) k fixed-abv above (atTop q) (atTopAbove q) (rw (is-yes (search needs) k fixed-abv above))) refl
           (c .flight-at .ensures .says (atTopAbove q) (λ n. levelled q (TopAboveFlight n)) refl refl);
       within = search needs;
     }

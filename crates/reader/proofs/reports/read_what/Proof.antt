@@ -17,7 +17,8 @@ read-observation-requires c κs = search needs
 returns-2 : tie.Need-returns-2
 returns-2 c =
     record {
-      says = λ o k r. on (c .before .before .before .before .before .read-phenomenon .ensures .says o k r) (c .before .before .if1 .left) (c .before .read-observation .ensures .says _);
+      says = λ o k r. on (c .before .before .before .before .before .read-phenomenon .ensures .says o k r) (c .before .before .if1 .left)
+          (c .before .read-observation .ensures .says _);
       within = search needs;
     }
 

@@ -19,7 +19,8 @@ read-level-requires c κs = search needs
 returns-2 : tie.Need-returns-2
 returns-2 c =
     record {
-      says = λ u e. on (c .before .before .before .before .read-location .ensures .says (inReport u) e refl) (c .before .if1 .left) (c .read-level .ensures .says _);
+      says = λ u e. on (c .before .before .before .before .read-location .ensures .says (inReport u) e refl) (c .before .if1 .left)
+          (c .read-level .ensures .says _);
       within = search needs;
     }
 
