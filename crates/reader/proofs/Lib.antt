@@ -4,3 +4,5 @@ pub mod KindLaws
 pub mod Tells
 pub mod FixedWords
 pub mod Sides
+pub mod Closing
+pub mod Determined

@@ -1,35 +1,32 @@
+-- `read` meets its contract: `check` refuses by numbers 1 to 3, and else the words before the `=` are read. Assumes nothing.
 use borrow.Author.Needs.{needs}
+use mathlib.Core.Path.{sym}
+use borrow.Author.Tests.{eq-eqb, ne-eqb}
+use lib.Seq.{length-take-le}
+use Rattle.words.proofs.Refusals.{check-small}
+use Rattle.grammar.specs.Reads.{readOf}
 use Rattle.reader.proofs.read.Statement.{statement}
 use Rattle.reader.proofs.read.Tie as tie
-use Rattle.reader.proofs.read.Reads as reads
-use Rattle.reader.proofs.read.Lts as lts
-use Rattle.reader.proofs.read_text.Reads as read-text-reads
-use Rattle.reader.proofs.refusal.Reads as refusal-reads
-use Rattle.words.proofs.check.Reads as check-reads
 
--- src/lib.rt:88:9
 check-requires : tie.Need-check-requires
 check-requires c κs = search needs
 
--- src/lib.rt:90:9
 refusal-requires : tie.Need-refusal-requires
 refusal-requires c κs = search needs
 
--- src/lib.rt:90:9
 returns : tie.Need-returns
-returns c = ?
+unfolding readOf
+returns c = rw (c .refusal .ensures, ← (c .before .before .before .check .ensures), ne-eqb _ 0 (c .before .if1 .taken))
 
--- src/lib.rt:93:15
 slice-aggregate-read-text : tie.Need-slice-aggregate-read-text
-slice-aggregate-read-text c = ?
+slice-aggregate-read-text c = sym (length-take-le _ _ (rw (c .before .before .before .check .ensures) (check-small _ .place)))
 
--- src/lib.rt:93:5
 read-text-requires : tie.Need-read-text-requires
 read-text-requires c κs = search needs
 
--- src/lib.rt:85:1
 returns-2 : tie.Need-returns-2
-returns-2 c = ?
+unfolding readOf
+returns-2 c = rw (c .read-text .ensures, ← (c .before .before .before .before .check .ensures), eq-eqb _ 0 (c .before .before .if1 .left))
 
 pub read-spec : {M : Type 1} → statement M
 read-spec =

@@ -1,65 +1,77 @@
+-- `read_text` meets its contract: heading, first line, area and body are one run, and its reply is the reply. Assumes nothing.
 use borrow.Author.Needs.{needs}
+use mathlib.Core.List.{List}
+use mathlib.Core.Path.{refl, sym, _∙_}
+use Prim.Native.Nat.{ℕ}
+use Rattle.grammar.specs.Records.{formed}
+use Rattle.grammar.specs.States.{ToArea}
+use Rattle.grammar.specs.States.State.{atDesignator, atIndicator, atForm}
+use Rattle.reader.specs.Going.{Goes, Ends}
+use Rattle.reader.proofs.Chains.{on, on-ends, off-reply, ends-refused, ends-accepted}
 use Rattle.reader.proofs.read_text.Statement.{statement}
 use Rattle.reader.proofs.read_text.Tie as tie
-use Rattle.reader.proofs.read_text.Reads as reads
-use Rattle.reader.proofs.read_text.Lts as lts
-use Rattle.reader.proofs.areas.read_area.Reads as read-area-reads
-use Rattle.reader.proofs.bodies.read_body.Reads as read-body-reads
-use Rattle.reader.proofs.first_line.read_line.Reads as read-line-reads
-use Rattle.reader.proofs.opening.read_heading.Reads as read-heading-reads
-use Rattle.reader.proofs.refusal.Reads as refusal-reads
 
--- src/lib.rt:49:9
 read-heading-requires : tie.Need-read-heading-requires
 read-heading-requires c κs = search needs
 
--- src/lib.rt:51:9
 refusal-requires : tie.Need-refusal-requires
 refusal-requires c κs = search needs
 
--- src/lib.rt:51:9
 returns : tie.Need-returns
-returns c = ?
+returns c = c .refusal .ensures ∙ sym (off-reply (c .before .before .before .read-heading .ensures .says) (c .before .if1 .taken))
 
--- src/lib.rt:53:9
 read-line-requires : tie.Need-read-line-requires
 read-line-requires c κs = search needs
 
--- src/lib.rt:55:9
 refusal-requires-2 : tie.Need-refusal-requires-2
 refusal-requires-2 c κs = search needs
 
--- src/lib.rt:55:9
-returns-2 : tie.Need-returns-2
-returns-2 c = ?
+abbrev text : tie.After-read-heading → List ℕ
+text c = c .before .before .args .text .now
 
--- src/lib.rt:57:9
+to-line : (c : tie.After-read-line) → Goes atDesignator (text (c .before .before .before)) 0 (c .read-line .result .number) (c .read-line .result .place)
+    (atIndicator (c .before .before .before .read-heading .result .heading) (c .read-line .result .line))
+to-line c = on (c .before .before .before .read-heading .ensures .says) (c .before .if1 .left) (c .read-line .ensures .says _)
+
+returns-2 : tie.Need-returns-2
+returns-2 c = c .refusal2 .ensures ∙ sym (off-reply (to-line (c .before .before .before)) (c .before .if2 .taken))
+
 read-area-requires : tie.Need-read-area-requires
 read-area-requires c κs = search needs
 
--- src/lib.rt:59:9
 refusal-requires-3 : tie.Need-refusal-requires-3
 refusal-requires-3 c κs = search needs
 
--- src/lib.rt:59:9
-returns-3 : tie.Need-returns-3
-returns-3 c = ?
+abbrev first : tie.After-read-area → tie.After-read-heading
+first c = c .before .before .before .before .before .before
 
--- src/lib.rt:65:9
+abbrev so-far : tie.After-read-area → ToArea
+so-far c = record { heading = first c .read-heading .result .heading; line = c .before .before .before .read-line .result .line; area = c .read-area .result .area }
+
+to-area : (c : tie.After-read-area) → Goes atDesignator (text (first c)) 0 (c .read-area .result .number) (c .read-area .result .place) (atForm (so-far c))
+to-area c = on (to-line (c .before .before .before)) (c .before .if2 .left) (c .read-area .ensures .says _ _)
+
+returns-3 : tie.Need-returns-3
+returns-3 c = c .refusal3 .ensures ∙ sym (off-reply (to-area (c .before .before .before)) (c .before .if3 .taken))
+
 read-body-requires : tie.Need-read-body-requires
 read-body-requires c κs = search needs
 
--- src/lib.rt:67:9
 refusal-requires-4 : tie.Need-refusal-requires-4
 refusal-requires-4 c κs = search needs
 
--- src/lib.rt:67:9
-returns-4 : tie.Need-returns-4
-returns-4 c = ?
+module _ (c : tie.After-read-body) where
+  abbrev area : tie.After-read-area
+  area = c .before .before .before .before .before .before .before
 
--- src/lib.rt:46:1
+  to-end : Ends atDesignator (text (first area)) 0 (c .read-body .result .number) (c .read-body .result .place) (formed (so-far area) (c .read-body .result .form) (c .read-body .result .report))
+  to-end = on-ends (to-area area) (c .before .before .before .before .before .if3 .left) (c .read-body .ensures .says (so-far area) refl refl refl)
+
+returns-4 : tie.Need-returns-4
+returns-4 c = c .refusal4 .ensures ∙ sym (ends-refused (to-end (c .before .before .before)) (c .before .if4 .taken))
+
 returns-5 : tie.Need-returns-5
-returns-5 c = ?
+returns-5 c = sym (ends-accepted (to-end (c .before .before .before)) (c .before .if4 .left))
 
 pub read-text-spec : {M : Type 1} → statement M
 read-text-spec =

@@ -1,31 +1,31 @@
+-- `read_forecast` meets its contract: the forecast's time and its location are one run. Assumes nothing.
 use borrow.Author.Needs.{needs}
+use mathlib.Core.Path.{refl}
+use Rattle.grammar.specs.States.Site.{inForecast}
+use Rattle.reader.proofs.Chains.{on, off}
 use Rattle.reader.proofs.endings.read_forecast.Statement.{statement}
 use Rattle.reader.proofs.endings.read_forecast.Tie as tie
-use Rattle.reader.proofs.endings.read_forecast.Reads as reads
-use Rattle.reader.proofs.endings.read_forecast.Lts as lts
-use Rattle.reader.proofs.empties.no_extent.Reads as no-extent-reads
-use Rattle.reader.proofs.endings.read_forecast_time.Reads as read-forecast-time-reads
-use Rattle.reader.proofs.locating.read_location.Reads as read-location-reads
 
--- src/endings.rt:133:9
 read-forecast-time-requires : tie.Need-read-forecast-time-requires
 read-forecast-time-requires c κs = search needs
 
--- src/endings.rt:135:13
 no-extent-requires : tie.Need-no-extent-requires
 no-extent-requires c κs = search needs
 
--- src/endings.rt:136:9
 returns : tie.Need-returns
-returns c = ?
+returns c =
+    record { says = λ l a e f. off (c .before .before .before .read-forecast-time .ensures .says l e f) (c .before .if1 .taken); within = search needs }
 
--- src/endings.rt:143:9
 read-location-requires : tie.Need-read-location-requires
 read-location-requires c κs = search needs
 
--- src/endings.rt:129:1
 returns-2 : tie.Need-returns-2
-returns-2 c = ?
+returns-2 c =
+    record {
+      says = λ l a e f. on (c .before .before .before .before .read-forecast-time .ensures .says l e f) (c .before .before .if1 .left)
+          (c .before .read-location .ensures .says (inForecast l _) a refl);
+      within = search needs;
+    }
 
 pub read-forecast-spec : {M : Type 1} → statement M
 read-forecast-spec =

@@ -1,30 +1,43 @@
+-- `read_top` meets its contract: `ABV` or `FLnnn` follows `TOP`. Assumes nothing.
 use borrow.Author.Needs.{needs}
+use mathlib.Core.Path.{refl}
+use Rattle.levels.specs.declared.Level.the-variants.{TopFlight, TopAboveFlight}
+use Rattle.grammar.specs.States.State.{atTop, atTopAbove}
+use Rattle.grammar.specs.Steps.{levelled, step}
+use Rattle.reader.proofs.Chains.{on}
+use Rattle.reader.proofs.FixedWords.{fixed-abv}
+use Rattle.reader.proofs.KindLaws.{is-yes, is-no, goes-fixed}
 use Rattle.reader.proofs.levelling.read_top.Statement.{statement}
 use Rattle.reader.proofs.levelling.read_top.Tie as tie
-use Rattle.reader.proofs.levelling.read_top.Reads as reads
-use Rattle.reader.proofs.levelling.read_top.Lts as lts
-use Rattle.reader.proofs.fixed.code_at.Reads as code-at-reads
-use Rattle.reader.proofs.levelling.flight_at.Reads as flight-at-reads
 
--- src/levelling.rt:95:9
 code-at-requires : tie.Need-code-at-requires
 code-at-requires c κs = search needs
 
--- src/levelling.rt:97:13
 flight-at-requires : tie.Need-flight-at-requires
 flight-at-requires c κs = search needs
 
--- src/levelling.rt:98:9
 returns : tie.Need-returns
-returns c = ?
+unfolding step
+returns c =
+    let k = c .before .before .before .code-at .ensures in
+    let above = c .before .if1 .taken in
+    record {
+      says = λ q. on (goes-fixed (search needs) k fixed-abv above (atTop q) (atTopAbove q) (rw (is-yes (search needs) k fixed-abv above))) refl
+          (c .flight-at .ensures .says (atTopAbove q) (λ n. levelled q (TopAboveFlight n)) refl refl);
+      within = search needs;
+    }
 
--- src/levelling.rt:104:9
 flight-at-requires-2 : tie.Need-flight-at-requires-2
 flight-at-requires-2 c κs = search needs
 
--- src/levelling.rt:91:1
 returns-2 : tie.Need-returns-2
-returns-2 c = ?
+unfolding step
+returns-2 c =
+    let k = c .before .before .before .code-at .ensures in
+    record {
+      says = λ q. c .flight-at2 .ensures .says (atTop q) (λ n. levelled q (TopFlight n)) (rw (is-no (search needs) k fixed-abv (c .before .if1 .left))) refl;
+      within = search needs;
+    }
 
 pub read-top-spec : {M : Type 1} → statement M
 read-top-spec =

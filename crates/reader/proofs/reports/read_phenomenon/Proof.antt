@@ -1,31 +1,29 @@
+-- `read_phenomenon` meets its contract: the first word of a report is judged by the kind of the bulletin. Assumes nothing.
 use borrow.Author.Needs.{needs}
+use mathlib.Core.Path.{sym, _∙_}
+use Rattle.reader.proofs.Closing.{weather-form, ash-form}
 use Rattle.reader.proofs.reports.read_phenomenon.Statement.{statement}
 use Rattle.reader.proofs.reports.read_phenomenon.Tie as tie
-use Rattle.reader.proofs.reports.read_phenomenon.Reads as reads
-use Rattle.reader.proofs.reports.read_phenomenon.Lts as lts
-use Rattle.reader.proofs.ashes.read_ash.Reads as read-ash-reads
-use Rattle.reader.proofs.empties.no_volcano.Reads as no-volcano-reads
-use Rattle.reader.proofs.weather.read_weather.Reads as read-weather-reads
 
--- src/reports.rt:50:13
 read-weather-requires : tie.Need-read-weather-requires
 read-weather-requires c κs = search needs
 
--- src/reports.rt:51:13
 no-volcano-requires : tie.Need-no-volcano-requires
 no-volcano-requires c κs = search needs
 
--- src/reports.rt:52:9
 returns : tie.Need-returns
-returns c = ?
+returns c =
+    record {
+      says = λ o k r. rw (c .no-volcano .ensures) (c .before .read-weather .ensures .says o (weather-form o _ r (k ∙ c .before .before .if1 .taken)));
+      within = search needs;
+    }
 
--- src/reports.rt:59:5
 read-ash-requires : tie.Need-read-ash-requires
 read-ash-requires c κs = search needs
 
--- src/reports.rt:45:1
 returns-2 : tie.Need-returns-2
-returns-2 c = ?
+returns-2 c =
+    record { says = λ o k r. c .read-ash .ensures .says o (ash-form o _ r (λ z. c .before .if1 .left (sym k ∙ z))); within = search needs }
 
 pub read-phenomenon-spec : {M : Type 1} → statement M
 read-phenomenon-spec =

@@ -1,49 +1,70 @@
+-- `read_report` meets its contract: what, where, ending and `=` are one run. Assumes nothing.
 use borrow.Author.Needs.{needs}
+use mathlib.Core.Path.{_≡_}
+use Rattle.grammar.specs.States.{ToArea}
+use Rattle.grammar.specs.States.State.{atForm, atEnding}
+use Rattle.grammar.specs.Steps.{kindOf}
+use Rattle.reader.specs.Going.{Goes, wordFrom}
+use Rattle.reader.specs.Reports.{Reporting}
+use Rattle.reader.proofs.Chains.{on, off-ends}
 use Rattle.reader.proofs.reports.read_report.Statement.{statement}
 use Rattle.reader.proofs.reports.read_report.Tie as tie
-use Rattle.reader.proofs.reports.read_report.Reads as reads
-use Rattle.reader.proofs.reports.read_report.Lts as lts
-use Rattle.reader.proofs.empties.no_report.Reads as no-report-reads
-use Rattle.reader.proofs.endings.read_ending.Reads as read-ending-reads
-use Rattle.reader.proofs.fixed.concluding.Reads as concluding-reads
-use Rattle.reader.proofs.reports.read_what.Reads as read-what-reads
-use Rattle.reader.proofs.reports.read_where.Reads as read-where-reads
 
--- src/reports.rt:123:9
 read-what-requires : tie.Need-read-what-requires
 read-what-requires c κs = search needs
 
--- src/reports.rt:125:13
 no-report-requires : tie.Need-no-report-requires
 no-report-requires c κs = search needs
 
--- src/reports.rt:126:9
 returns : tie.Need-returns
-returns c = ?
+returns c =
+    record { says = λ o k a e r. off-ends (c .before .before .before .read-what .ensures .says o k r) (c .before .if1 .taken) }
 
--- src/reports.rt:132:9
 read-where-requires : tie.Need-read-where-requires
 read-where-requires c κs = search needs
 
--- src/reports.rt:134:13
 no-report-requires-2 : tie.Need-no-report-requires-2
 no-report-requires-2 c κs = search needs
 
--- src/reports.rt:135:9
-returns-2 : tie.Need-returns-2
-returns-2 c = ?
+module _ (c : tie.After-read-where) where
+  abbrev what : tie.After-read-what
+  what = c .before .before .before
 
--- src/reports.rt:141:9
+  abbrev given : tie.Start
+  given = what .before .before
+
+  -- up to the level
+  to-level : (o : ToArea) → kindOf o ≡ given .args .kind → o .area .closing ≡ given .args .closing → Reporting (wordFrom (given .args .text .now) (given .args .at))
+      → Goes (atForm o) (given .args .text .now) (given .args .at) (c .read-where .result .number) (c .read-where .result .place)
+      (atEnding (record {
+        before = record {
+          before = record {
+            before = record { before = o; phenomenon = what .read-what .result .phenomenon; volcano = what .read-what .result .volcano };
+            observation = what .read-what .result .observation;
+          };
+          extent = c .read-where .result .extent;
+        };
+        level = c .read-where .result .level;
+      }))
+  to-level o k a r = on (what .read-what .ensures .says o k r) (c .before .if1 .left) (c .read-where .ensures .says _ a)
+
+returns-2 : tie.Need-returns-2
+returns-2 c =
+    record { says = λ o k a e r. off-ends (to-level (c .before .before .before) o k a r) (c .before .if2 .taken) }
+
 read-ending-requires : tie.Need-read-ending-requires
 read-ending-requires c κs = search needs
 
--- src/reports.rt:142:9
 concluding-requires : tie.Need-concluding-requires
 concluding-requires c κs = search needs
 
--- src/reports.rt:119:1
 returns-3 : tie.Need-returns-3
-returns-3 c = ?
+returns-3 c =
+    record {
+      says = λ o k a e r. c .before .before .before .before .concluding .ensures .says _ _ _
+          (on (to-level (c .before .before .before .before .before .before .before .before) o k a r) (c .before .before .before .before .before .before .if2 .left)
+          (c .before .before .before .before .before .read-ending .ensures .says _ k a e));
+    }
 
 pub read-report-spec : {M : Type 1} → statement M
 read-report-spec =

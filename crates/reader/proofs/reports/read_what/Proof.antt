@@ -1,26 +1,26 @@
+-- `read_what` meets its contract: phenomenon and observation are one run. Assumes nothing.
 use borrow.Author.Needs.{needs}
+use Rattle.reader.proofs.Chains.{on, off}
 use Rattle.reader.proofs.reports.read_what.Statement.{statement}
 use Rattle.reader.proofs.reports.read_what.Tie as tie
-use Rattle.reader.proofs.reports.read_what.Reads as reads
-use Rattle.reader.proofs.reports.read_what.Lts as lts
-use Rattle.reader.proofs.observing.read_observation.Reads as read-observation-reads
-use Rattle.reader.proofs.reports.read_phenomenon.Reads as read-phenomenon-reads
 
--- src/reports.rt:67:9
 read-phenomenon-requires : tie.Need-read-phenomenon-requires
 read-phenomenon-requires c κs = search needs
 
--- src/reports.rt:71:9
 returns : tie.Need-returns
-returns c = ?
+returns c =
+    record { says = λ o k r. off (c .before .before .before .read-phenomenon .ensures .says o k r) (c .if1 .taken); within = search needs }
 
--- src/reports.rt:83:9
 read-observation-requires : tie.Need-read-observation-requires
 read-observation-requires c κs = search needs
 
--- src/reports.rt:63:1
 returns-2 : tie.Need-returns-2
-returns-2 c = ?
+returns-2 c =
+    record {
+      says = λ o k r. on (c .before .before .before .before .before .read-phenomenon .ensures .says o k r) (c .before .before .if1 .left)
+          (c .before .read-observation .ensures .says _);
+      within = search needs;
+    }
 
 pub read-what-spec : {M : Type 1} → statement M
 read-what-spec =
