@@ -10,7 +10,7 @@ struct Piece {
     next: usize,
 }
 
-// Puts the text at the start of `out`, which holds spaces, and answers its length. It is cut where `out` is full.
+// Puts the text, which follows a space, at the start of `out`, which holds spaces, and answers its length. It is cut where `out` is full.
 pub(crate) fn text_of(line: &[u8], out: &mut [u8]) -> usize
     ensures { λ r. ⌜ Counts r (now (out .exit)) ⌝ }
 {
