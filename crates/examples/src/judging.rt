@@ -5,8 +5,8 @@ use reader::read;
 
 // How many texts got the expected reply, and how many another.
 pub(crate) struct Tally {
-    pub(crate) right: u32,
-    pub(crate) wrong: u32,
+    pub(crate) right: u64,
+    pub(crate) wrong: u64,
 }
 
 // What is compared of a reply.
@@ -49,14 +49,14 @@ fn compare(tally: Tally, name: &[u8], number: &[u8], place: &[u8], line: &[u8]) 
     if is_reply(given, number, place) {
         io::write_all(1, b" ok\n");
         return Tally {
-            right: std::num::wrapping_add_u32(tally.right, 1),
+            right: std::num::wrapping_add_u64(tally.right, 1),
             wrong: tally.wrong,
         };
     }
     expected(number, place);
     Tally {
         right: tally.right,
-        wrong: std::num::wrapping_add_u32(tally.wrong, 1),
+        wrong: std::num::wrapping_add_u64(tally.wrong, 1),
     }
 }
 
@@ -65,7 +65,7 @@ fn reply_to(line: &[u8]) -> Given {
     let n = text_of(line, &mut text);
     let reply = read(&text[..n]);
     Given {
-        number: wide(reply.number),
+        number: reply.number as u64,
         place: reply.place as u64,
     }
 }
@@ -97,8 +97,4 @@ fn is_number(n: u64, text: &[u8]) -> bool {
     let mut digits = [0u8; 20];
     let k = io::decimal(n, &mut digits);
     check::same(&digits[..k], text)
-}
-
-fn wide(x: u8) -> u64 {
-    x as u64
 }

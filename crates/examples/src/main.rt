@@ -15,9 +15,9 @@ fn main() {
     let mut table = room();
     let n = io::read_full(0, &mut table);
     let tally = run(&table[..n]);
-    io::print_decimal(1, tally.right as u64);
+    io::print_decimal(1, tally.right);
     io::write_all(1, b" ok, ");
-    io::print_decimal(1, tally.wrong as u64);
+    io::print_decimal(1, tally.wrong);
     io::write_all(1, b" wrong\n");
 }
 
