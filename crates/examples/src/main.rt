@@ -1,0 +1,44 @@
+// Runs the example texts through the reader and compares each reply with the expected one. Texts and replies stand in the file `stdin`, a
+// line each, and not in the source: a byte of a literal costs the checker a millisecond, and every call more.
+ghost use mathlib.Core.Path.{_≡_};
+ghost use lib.ListN.{length};
+
+mod judging;
+mod lines;
+mod texts;
+
+use judging::Tally;
+use judging::judge;
+use lines::find;
+
+fn main() {
+    let mut table = room();
+    let n = io::read_full(0, &mut table);
+    let tally = run(&table[..n]);
+    io::print_decimal(1, tally.right);
+    io::write_all(1, b" ok, ");
+    io::print_decimal(1, tally.wrong);
+    io::write_all(1, b" wrong\n");
+}
+
+// Room for the table, which has some 76,000 bytes.
+fn room() -> [u8; 131072]
+    ensures { λ r. ⌜ 131072 ≡ length r ⌝ }
+{
+    [0; 131072]
+}
+
+// Judges the table line by line.
+fn run(table: &[u8]) -> Tally {
+    let mut tally = Tally { right: 0, wrong: 0 };
+    let mut start = 0;
+    while start < table.len() {
+        let end = find(table, start, b'\n');
+        tally = judge(tally, &table[start..end]);
+        if end == table.len() {
+            return tally;
+        }
+        start = end + 1;
+    }
+    tally
+}
