@@ -1,4 +1,4 @@
-//! decoder [read] | generate SEED COUNT | compare SEED COUNT PROGRAM [ARGUMENT...]
+//! decoder [read] | generate SEED COUNT | tables SEED COUNT FOLDER | compare SEED COUNT PROGRAM [ARGUMENT...]
 
 mod compare;
 mod decode;
@@ -7,6 +7,7 @@ mod good;
 mod grammar;
 mod rng;
 mod shapes;
+mod table;
 #[cfg(test)]
 mod tests;
 mod words;
@@ -32,6 +33,7 @@ fn main() {
                 println!("{:8} b\"{}\"", generate::CLASSES[class], text.escape_ascii());
             }
         }
+        ["tables", seed, count, folder] => table::write(number(seed), number(count), folder).expect("the folder"),
         ["compare", seed, count, program, ref rest @ ..] => {
             if !compare::compare(program, rest, number(seed), number(count)) {
                 exit(1);
@@ -42,6 +44,6 @@ fn main() {
 }
 
 fn usage() -> ! {
-    eprintln!("usage: decoder [read] | generate SEED COUNT | compare SEED COUNT PROGRAM [ARGUMENT...]");
+    eprintln!("usage: decoder [read] | generate SEED COUNT | tables SEED COUNT FOLDER | compare SEED COUNT PROGRAM [ARGUMENT...]");
     exit(2)
 }
