@@ -3,3 +3,4 @@ pub mod Chains
 pub mod KindLaws
 pub mod Tells
 pub mod FixedWords
+pub mod NameText
