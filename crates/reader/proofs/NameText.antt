@@ -9,8 +9,8 @@ use native.Mathlib.Numerals.{add-one}
 use native.Mathlib.Omega.{arith}
 use lib.Dec.{leb}
 use lib.ListN.{length, getD, take, drop, set, replicate, length-append, length-replicate, replicate-append-replicate}
-use borrow.Author.Tests.{le-leb, lt-leb, leb-true}
 use lib.Seq.{take-length, take-append-seam, take-suc-set, drop-append-add, drop-at, drop-set-lt, paste, paste-suc}
+use borrow.Author.Tests.{le-leb, lt-leb, leb-true}
 use Rattle.lists.specs.Choice.{pick}
 use Rattle.lists.specs.Lists.{part}
 use Rattle.lists.proofs.Choice.{by, clash, both-left, both-right, both-true, both-false-left, both-false-right, pick-true, pick-false}

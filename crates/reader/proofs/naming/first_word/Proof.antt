@@ -5,12 +5,6 @@ use borrow.Author.Tests.{not-true, not-false}
 use Rattle.reader.proofs.NameText.{first-long, first-other, first-in}
 use Rattle.reader.proofs.naming.first_word.Statement.{statement}
 use Rattle.reader.proofs.naming.first_word.Tie as tie
-use Rattle.reader.proofs.naming.first_word.Reads as reads
-use Rattle.reader.proofs.naming.first_word.Lts as lts
-use Rattle.names.proofs.in_name.Reads as in-name-reads
-use Rattle.reader.proofs.empties.no_name.Reads as no-name-reads
-use Rattle.reader.proofs.fixed.word.Reads as word-reads
-use Rattle.reader.proofs.naming.put_word.Reads as put-word-reads
 
 -- src/naming.rt:44:9
 no-name-requires : tie.Need-no-name-requires

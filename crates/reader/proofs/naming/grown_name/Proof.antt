@@ -5,9 +5,6 @@ use mathlib.Core.Path.{refl}
 use Rattle.reader.proofs.NameText.{grown-says}
 use Rattle.reader.proofs.naming.grown_name.Statement.{statement}
 use Rattle.reader.proofs.naming.grown_name.Tie as tie
-use Rattle.reader.proofs.naming.grown_name.Reads as reads
-use Rattle.reader.proofs.naming.grown_name.Lts as lts
-use Rattle.reader.proofs.naming.put_word.Reads as put-word-reads
 
 -- src/naming.rt:79:5
 array-write-bytes : tie.Need-array-write-bytes

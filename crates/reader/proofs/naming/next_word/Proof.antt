@@ -4,11 +4,6 @@ use borrow.Author.Tests.{not-true, not-false}
 use Rattle.reader.proofs.NameText.{next-long, next-other, next-in}
 use Rattle.reader.proofs.naming.next_word.Statement.{statement}
 use Rattle.reader.proofs.naming.next_word.Tie as tie
-use Rattle.reader.proofs.naming.next_word.Reads as reads
-use Rattle.reader.proofs.naming.next_word.Lts as lts
-use Rattle.names.proofs.in_name.Reads as in-name-reads
-use Rattle.reader.proofs.fixed.word.Reads as word-reads
-use Rattle.reader.proofs.naming.grown_name.Reads as grown-name-reads
 
 -- src/naming.rt:92:9
 word-requires : tie.Need-word-requires

@@ -8,8 +8,6 @@ use lib.Seq.{paste, paste-zero}
 use Rattle.reader.proofs.NameText.{put-more, put-all}
 use Rattle.reader.proofs.naming.put_word.Statement.{statement}
 use Rattle.reader.proofs.naming.put_word.Tie as tie
-use Rattle.reader.proofs.naming.put_word.Reads as reads
-use Rattle.reader.proofs.naming.put_word.Lts as lts
 
 abbrev Inv-loop : tie.InvT-loop
 Inv-loop at w out₀ i₀ out i = (i ≤ length w) × ((length out ≡ 50) × (out ≡ paste out₀ at w i))

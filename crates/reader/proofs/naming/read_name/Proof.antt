@@ -7,10 +7,6 @@ use lib.ListN.{length}
 use Rattle.reader.proofs.NameText.{NamedSoFar, name-begun, name-refused, name-grown, name-ends}
 use Rattle.reader.proofs.naming.read_name.Statement.{statement}
 use Rattle.reader.proofs.naming.read_name.Tie as tie
-use Rattle.reader.proofs.naming.read_name.Reads as reads
-use Rattle.reader.proofs.naming.read_name.Lts as lts
-use Rattle.reader.proofs.naming.first_word.Reads as first-word-reads
-use Rattle.reader.proofs.naming.next_word.Reads as next-word-reads
 
 abbrev Inv-loop : tie.InvT-loop
 Inv-loop text at mountain limit refusal name₀ place₀ name place = NamedSoFar mountain limit refusal text at place name
