@@ -1,6 +1,5 @@
 -- `read_heading` meets its contract: its first three words, then perhaps a correction. Assumes nothing.
 use borrow.Author.Needs.{needs}
-use mathlib.Core.Path.{refl}
 use Rattle.reader.proofs.Chains.{on, off}
 use Rattle.reader.proofs.opening.read_heading.Statement.{statement}
 use Rattle.reader.proofs.opening.read_heading.Tie as tie
