@@ -6,3 +6,5 @@ pub mod FixedWords
 pub mod Sides
 pub mod Closing
 pub mod Determined
+pub mod Forming
+pub mod NameText

@@ -1,12 +1,14 @@
+-- `read_after_ash` meets its contract: the cloud is told by its code, and the eruption by its number. Assumes nothing.
 use borrow.Author.Needs.{needs}
+use mathlib.Core.Path.{refl}
+use Rattle.grammar.specs.States.State.{atAsh, atEruption}
+use Rattle.grammar.specs.Steps.{step}
+use Rattle.reader.proofs.Chains.{on, off}
+use Rattle.reader.proofs.FixedWords.{fixed-cld}
+use Rattle.reader.proofs.Forming.{ash-erupts}
+use Rattle.reader.proofs.KindLaws.{is-yes, goes-fixed}
 use Rattle.reader.proofs.ashes.read_after_ash.Statement.{statement}
 use Rattle.reader.proofs.ashes.read_after_ash.Tie as tie
-use Rattle.reader.proofs.ashes.read_after_ash.Reads as reads
-use Rattle.reader.proofs.ashes.read_after_ash.Lts as lts
-use Rattle.reader.proofs.ashes.read_eruption.Reads as read-eruption-reads
-use Rattle.reader.proofs.empties.no_volcano.Reads as no-volcano-reads
-use Rattle.reader.proofs.fixed.code_at.Reads as code-at-reads
-use Rattle.reader.proofs.fixed.long_at.Reads as long-at-reads
 
 -- src/ashes.rt:149:9
 code-at-requires : tie.Need-code-at-requires
@@ -18,7 +20,13 @@ no-volcano-requires c κs = search needs
 
 -- src/ashes.rt:152:9
 returns : tie.Need-returns
-returns c = ?
+unfolding step
+returns c =
+    let k = c .before .before .before .code-at .ensures in
+    record {
+      says = λ o. goes-fixed (search needs) k fixed-cld (c .if1 .taken) (atAsh o) _ (rw (is-yes (search needs) k fixed-cld (c .if1 .taken), c .before .before .no-volcano .ensures));
+      within = search needs;
+    }
 
 -- src/ashes.rt:159:9
 long-at-requires : tie.Need-long-at-requires
@@ -26,7 +34,9 @@ long-at-requires c κs = search needs
 
 -- src/ashes.rt:161:9
 returns-2 : tie.Need-returns-2
-returns-2 c = ?
+returns-2 c =
+    let other = ash-erupts (search needs) (c .before .before .before .before .before .before .code-at .ensures) (c .before .before .before .if1 .left) in
+    record { says = λ o. off (c .before .before .long-at .ensures .says (atAsh o) (λ _. atEruption o) (other o) refl) (c .if2 .taken); within = search needs }
 
 -- src/ashes.rt:168:9
 read-eruption-requires : tie.Need-read-eruption-requires
@@ -34,7 +44,12 @@ read-eruption-requires c κs = search needs
 
 -- src/ashes.rt:145:1
 returns-3 : tie.Need-returns-3
-returns-3 c = ?
+returns-3 c =
+    let other = ash-erupts (search needs) (c .before .before .before .before .before .before .before .before .code-at .ensures) (c .before .before .before .before .before .if1 .left) in
+    record {
+      says = λ o. on (c .before .before .before .before .long-at .ensures .says (atAsh o) (λ _. atEruption o) (other o) refl) (c .before .before .if2 .left) (c .before .read-eruption .ensures .says o);
+      within = search needs;
+    }
 
 pub read-after-ash-spec : {M : Type 1} → statement M
 read-after-ash-spec =

@@ -1,11 +1,11 @@
+-- `read_ash` meets its contract: one fixed word, and what follows it. Assumes nothing.
 use borrow.Author.Needs.{needs}
+use mathlib.Core.Path.{refl}
+use Rattle.grammar.specs.States.State.{atForm, atAsh}
+use Rattle.reader.proofs.Chains.{on, off}
+use Rattle.reader.proofs.FixedWords.{fixed-va}
 use Rattle.reader.proofs.ashes.read_ash.Statement.{statement}
 use Rattle.reader.proofs.ashes.read_ash.Tie as tie
-use Rattle.reader.proofs.ashes.read_ash.Reads as reads
-use Rattle.reader.proofs.ashes.read_ash.Lts as lts
-use Rattle.reader.proofs.ashes.read_after_ash.Reads as read-after-ash-reads
-use Rattle.reader.proofs.empties.no_volcano.Reads as no-volcano-reads
-use Rattle.reader.proofs.fixed.fixed_at.Reads as fixed-at-reads
 
 -- src/ashes.rt:182:9
 fixed-at-requires : tie.Need-fixed-at-requires
@@ -17,7 +17,8 @@ no-volcano-requires c κs = search needs
 
 -- src/ashes.rt:185:9
 returns : tie.Need-returns
-returns c = ?
+returns c =
+    record { says = λ o j. off (c .before .before .before .fixed-at .ensures .says _ fixed-va (atForm o) (atAsh o) j refl) (c .before .if1 .taken); within = search needs }
 
 -- src/ashes.rt:192:5
 read-after-ash-requires : tie.Need-read-after-ash-requires
@@ -25,7 +26,11 @@ read-after-ash-requires c κs = search needs
 
 -- src/ashes.rt:178:1
 returns-2 : tie.Need-returns-2
-returns-2 c = ?
+returns-2 c =
+    record {
+      says = λ o j. on (c .before .before .before .fixed-at .ensures .says _ fixed-va (atForm o) (atAsh o) j refl) (c .before .if1 .left) (c .read-after-ash .ensures .says o);
+      within = search needs;
+    }
 
 pub read-ash-spec : {M : Type 1} → statement M
 read-ash-spec =

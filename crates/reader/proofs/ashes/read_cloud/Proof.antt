@@ -1,9 +1,12 @@
+-- `read_cloud` meets its contract: two fixed words. Assumes nothing.
 use borrow.Author.Needs.{needs}
+use mathlib.Core.Path.{refl}
+use Rattle.grammar.specs.States.State.{atVolcanoAsh, atVolcanoCloud}
+use Rattle.grammar.specs.Steps.{step}
+use Rattle.reader.proofs.Chains.{on, off}
+use Rattle.reader.proofs.FixedWords.{fixed-va, fixed-cld}
 use Rattle.reader.proofs.ashes.read_cloud.Statement.{statement}
 use Rattle.reader.proofs.ashes.read_cloud.Tie as tie
-use Rattle.reader.proofs.ashes.read_cloud.Reads as reads
-use Rattle.reader.proofs.ashes.read_cloud.Lts as lts
-use Rattle.reader.proofs.fixed.fixed_at.Reads as fixed-at-reads
 
 -- src/ashes.rt:102:9
 fixed-at-requires : tie.Need-fixed-at-requires
@@ -11,7 +14,8 @@ fixed-at-requires c κs = search needs
 
 -- src/ashes.rt:104:9
 returns : tie.Need-returns
-returns c = ?
+unfolding step
+returns c = record { says = λ o v. off (c .before .before .fixed-at .ensures .says _ fixed-va (atVolcanoAsh o v) (atVolcanoCloud o v) refl refl) (c .if1 .taken); within = search needs }
 
 -- src/ashes.rt:106:5
 fixed-at-requires-2 : tie.Need-fixed-at-requires-2
@@ -19,7 +23,13 @@ fixed-at-requires-2 c κs = search needs
 
 -- src/ashes.rt:98:1
 returns-2 : tie.Need-returns-2
-returns-2 c = ?
+unfolding step
+returns-2 c =
+    record {
+      says = λ o v. on (c .before .before .before .fixed-at .ensures .says _ fixed-va (atVolcanoAsh o v) (atVolcanoCloud o v) refl refl) (c .before .if1 .left)
+          (c .fixed-at2 .ensures .says _ fixed-cld (atVolcanoCloud o v) _ refl refl);
+      within = search needs;
+    }
 
 pub read-cloud-spec : {M : Type 1} → statement M
 read-cloud-spec = tie.close (tie.spec fixed-at-requires returns fixed-at-requires-2 returns-2)

@@ -1,12 +1,8 @@
+-- `read_eruption` meets its contract: a name, a point and a cloud, one after another. Assumes nothing.
 use borrow.Author.Needs.{needs}
+use Rattle.reader.proofs.Chains.{on, off}
 use Rattle.reader.proofs.ashes.read_eruption.Statement.{statement}
 use Rattle.reader.proofs.ashes.read_eruption.Tie as tie
-use Rattle.reader.proofs.ashes.read_eruption.Reads as reads
-use Rattle.reader.proofs.ashes.read_eruption.Lts as lts
-use Rattle.reader.proofs.ashes.read_cloud.Reads as read-cloud-reads
-use Rattle.reader.proofs.ashes.read_mountain.Reads as read-mountain-reads
-use Rattle.reader.proofs.ashes.read_position.Reads as read-position-reads
-use Rattle.reader.proofs.empties.no_point.Reads as no-point-reads
 
 -- src/ashes.rt:114:9
 read-mountain-requires : tie.Need-read-mountain-requires
@@ -18,7 +14,7 @@ no-point-requires c κs = search needs
 
 -- src/ashes.rt:118:9
 returns : tie.Need-returns
-returns c = ?
+returns c = record { says = λ o. off (c .before .before .before .before .read-mountain .ensures .says o) (c .before .if1 .taken); within = search needs }
 
 -- src/ashes.rt:127:9
 read-position-requires : tie.Need-read-position-requires
@@ -26,7 +22,12 @@ read-position-requires c κs = search needs
 
 -- src/ashes.rt:130:9
 returns-2 : tie.Need-returns-2
-returns-2 c = ?
+returns-2 c =
+    let mount = c .before .before .before .before .before .before .before .read-mountain in
+    record {
+      says = λ o. off (on (mount .ensures .says o) (c .before .before .before .before .if1 .left) (c .before .before .before .read-position .ensures .says o (mount .result .name))) (c .if2 .taken);
+      within = search needs;
+    }
 
 -- src/ashes.rt:136:9
 read-cloud-requires : tie.Need-read-cloud-requires
@@ -34,7 +35,15 @@ read-cloud-requires c κs = search needs
 
 -- src/ashes.rt:110:1
 returns-3 : tie.Need-returns-3
-returns-3 c = ?
+returns-3 c =
+    let mount = c .before .before .before .before .before .before .before .before .read-mountain in
+    let point = c .before .before .before .before .read-position in
+    record {
+      says = λ o. on (mount .ensures .says o) (c .before .before .before .before .before .if1 .left)
+          (on (point .ensures .says o (mount .result .name)) (c .before .if2 .left)
+          (c .read-cloud .ensures .says o (record { name = mount .result .name; position = point .result .point })));
+      within = search needs;
+    }
 
 pub read-eruption-spec : {M : Type 1} → statement M
 read-eruption-spec =

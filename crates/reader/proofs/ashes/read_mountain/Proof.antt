@@ -1,12 +1,18 @@
+-- `read_mountain` meets its contract: without MT the word is PSN, and with it a name comes before. Assumes nothing.
 use borrow.Author.Needs.{needs}
+use mathlib.Core.Path.{refl}
+use borrow.Author.Tests.{not-true, not-false}
+use lib.ListN.{take}
+use Rattle.grammar.specs.States.{ToArea}
+use Rattle.grammar.specs.States.State.{atEruption, atMountain, atMoreMountain}
+use Rattle.grammar.specs.Steps.{step}
+use Rattle.reader.specs.Going.{Goes}
+use Rattle.reader.proofs.Chains.{on, off}
+use Rattle.reader.proofs.FixedWords.{fixed-mt, fixed-psn}
+use Rattle.reader.proofs.Forming.{no-mountain}
+use Rattle.reader.proofs.NameText.{mountainClosed, mountain-takes, name-closed}
 use Rattle.reader.proofs.ashes.read_mountain.Statement.{statement}
 use Rattle.reader.proofs.ashes.read_mountain.Tie as tie
-use Rattle.reader.proofs.ashes.read_mountain.Reads as reads
-use Rattle.reader.proofs.ashes.read_mountain.Lts as lts
-use Rattle.reader.proofs.empties.no_name.Reads as no-name-reads
-use Rattle.reader.proofs.fixed.fixed_at.Reads as fixed-at-reads
-use Rattle.reader.proofs.fixed.perhaps_at.Reads as perhaps-at-reads
-use Rattle.reader.proofs.naming.read_name.Reads as read-name-reads
 
 -- src/ashes.rt:46:9
 perhaps-at-requires : tie.Need-perhaps-at-requires
@@ -22,15 +28,23 @@ no-name-requires c κs = search needs
 
 -- src/ashes.rt:50:9
 returns : tie.Need-returns
-returns c = ?
+returns c =
+    record { says = λ o. rw (c .no-name .ensures) (no-mountain (search needs) (search (not-true, needs)) (c .before .before .before .before .perhaps-at .ensures) o (c .before .fixed-at .ensures)); within = search needs }
 
 -- src/ashes.rt:56:9
 read-name-requires : tie.Need-read-name-requires
 read-name-requires c κs = search needs
 
+up-to-name : (c : tie.After-read-name) (o : ToArea)
+    → Goes (atEruption o) (c .before .before .before .before .before .args .text .now) (c .before .before .before .before .before .args .at) (c .read-name .result .number) (c .read-name .result .place) (atMoreMountain o (take (c .read-name .result .name .count) (c .read-name .result .name .bytes)))
+unfolding step
+up-to-name c o =
+    on (c .before .before .before .perhaps-at .ensures .with (search (not-false, needs)) _ fixed-mt (atEruption o) (atMountain o) (λ y. rw y)) refl
+    (c .read-name .ensures .says (atMountain o) (atMoreMountain o) _ (mountain-takes o))
+
 -- src/ashes.rt:58:9
 returns-2 : tie.Need-returns-2
-returns-2 c = ?
+returns-2 c = record { says = λ o. off (up-to-name (c .before .before) o) (c .if2 .taken); within = search needs }
 
 -- src/ashes.rt:61:9
 fixed-at-requires-2 : tie.Need-fixed-at-requires-2
@@ -38,7 +52,14 @@ fixed-at-requires-2 c κs = search needs
 
 -- src/ashes.rt:42:1
 returns-3 : tie.Need-returns-3
-returns-3 c = ?
+returns-3 c =
+    let read = c .before .before .before .before in
+    let n = read .read-name .result .name in
+    record {
+      says = λ o. on (up-to-name read o) (c .before .before .if2 .left)
+          (c .fixed-at2 .ensures .says _ fixed-psn (atMoreMountain o (take (n .count) (n .bytes))) _ (name-closed (mountainClosed o) (read .read-name .ensures) (c .before .before .if2 .left) (mountain-takes o)) refl);
+      within = search needs;
+    }
 
 pub read-mountain-spec : {M : Type 1} → statement M
 read-mountain-spec =

@@ -1,10 +1,11 @@
+-- `read_position` meets its contract: a latitude, and then a longitude. Assumes nothing.
 use borrow.Author.Needs.{needs}
+use mathlib.Core.Path.{refl}
+use Rattle.grammar.specs.States.State.{atPosition, atPositionLongitude, atVolcanoAsh}
+use Rattle.grammar.specs.Steps.{step}
+use Rattle.reader.proofs.Chains.{on, off}
 use Rattle.reader.proofs.ashes.read_position.Statement.{statement}
 use Rattle.reader.proofs.ashes.read_position.Tie as tie
-use Rattle.reader.proofs.ashes.read_position.Reads as reads
-use Rattle.reader.proofs.ashes.read_position.Lts as lts
-use Rattle.reader.proofs.kinds.latitude_at.Reads as latitude-at-reads
-use Rattle.reader.proofs.kinds.longitude_at.Reads as longitude-at-reads
 
 -- src/ashes.rt:73:9
 latitude-at-requires : tie.Need-latitude-at-requires
@@ -12,7 +13,8 @@ latitude-at-requires c κs = search needs
 
 -- src/ashes.rt:76:9
 returns : tie.Need-returns
-returns c = ?
+unfolding step
+returns c = record { says = λ o n. off (c .before .before .before .latitude-at .ensures .says (atPosition o n) (atPositionLongitude o n) refl refl) (c .if1 .taken); within = search needs }
 
 -- src/ashes.rt:85:9
 longitude-at-requires : tie.Need-longitude-at-requires
@@ -20,7 +22,15 @@ longitude-at-requires c κs = search needs
 
 -- src/ashes.rt:69:1
 returns-2 : tie.Need-returns-2
-returns-2 c = ?
+unfolding step
+returns-2 c =
+    let north = c .before .before .before .before .before .latitude-at in
+    record {
+      says = λ o n. on (north .ensures .says (atPosition o n) (atPositionLongitude o n) refl refl) (c .before .before .if1 .left)
+          (c .before .longitude-at .ensures .says (atPositionLongitude o n (north .result .coordinate))
+          (λ e. atVolcanoAsh o (record { name = n; position = record { latitude = north .result .coordinate; longitude = e } })) refl refl);
+      within = search needs;
+    }
 
 pub read-position-spec : {M : Type 1} → statement M
 read-position-spec =

@@ -1,11 +1,8 @@
+-- `cancellation_body` meets its contract: what is cancelled, and the `=`. Assumes nothing.
 use borrow.Author.Needs.{needs}
+use Rattle.grammar.specs.States.State.{atCancelSigmet}
 use Rattle.reader.proofs.bodies.cancellation_body.Statement.{statement}
 use Rattle.reader.proofs.bodies.cancellation_body.Tie as tie
-use Rattle.reader.proofs.bodies.cancellation_body.Reads as reads
-use Rattle.reader.proofs.bodies.cancellation_body.Lts as lts
-use Rattle.reader.proofs.cancelling.read_cancellation.Reads as read-cancellation-reads
-use Rattle.reader.proofs.empties.no_report.Reads as no-report-reads
-use Rattle.reader.proofs.fixed.concluding.Reads as concluding-reads
 
 -- src/bodies.rt:63:9
 read-cancellation-requires : tie.Need-read-cancellation-requires
@@ -21,7 +18,8 @@ no-report-requires c κs = search needs
 
 -- src/bodies.rt:59:1
 returns : tie.Need-returns
-returns c = ?
+returns c =
+    record { says = λ o l. rw (c .no-report .ensures) (c .before .concluding .ensures .says (atCancelSigmet o) _ _ (c .before .before .before .before .read-cancellation .ensures .says o l)) }
 
 pub cancellation-body-spec : {M : Type 1} → statement M
 cancellation-body-spec =

@@ -1,11 +1,8 @@
+-- `long_test_body` meets its contract: the text of the test, and the `=`. Assumes nothing.
 use borrow.Author.Needs.{needs}
+use Rattle.grammar.specs.States.State.{atTestText}
 use Rattle.reader.proofs.bodies.long_test_body.Statement.{statement}
 use Rattle.reader.proofs.bodies.long_test_body.Tie as tie
-use Rattle.reader.proofs.bodies.long_test_body.Reads as reads
-use Rattle.reader.proofs.bodies.long_test_body.Lts as lts
-use Rattle.reader.proofs.empties.no_report.Reads as no-report-reads
-use Rattle.reader.proofs.fixed.concluding.Reads as concluding-reads
-use Rattle.reader.proofs.tests.read_long_test.Reads as read-long-test-reads
 
 -- src/bodies.rt:47:9
 read-long-test-requires : tie.Need-read-long-test-requires
@@ -21,7 +18,7 @@ no-report-requires c κs = search needs
 
 -- src/bodies.rt:43:1
 returns : tie.Need-returns
-returns c = ?
+returns c = record { says = λ o. rw (c .no-report .ensures) (c .before .concluding .ensures .says (atTestText o 3 1) _ _ (c .before .before .read-long-test .ensures .says o)) }
 
 pub long-test-body-spec : {M : Type 1} → statement M
 long-test-body-spec =

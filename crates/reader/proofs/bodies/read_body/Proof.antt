@@ -1,13 +1,15 @@
+-- `read_body` meets its contract: a choice of three words by their codes; any other word begins a report. Assumes nothing.
 use borrow.Author.Needs.{needs}
+use mathlib.Core.Path.{refl, ap}
+use Rattle.message.specs.Words.{timeOfDay}
+use Rattle.message.specs.declared.FirstLine.{FirstLine}
+use Rattle.grammar.specs.States.State.{atForm, atTest, atTestText, atCancelSigmet}
+use Rattle.grammar.specs.Steps.{stepForm, step}
+use Rattle.reader.proofs.Chains.{on-ends}
+use Rattle.reader.proofs.FixedWords.{fixed-test, fixed-test-stop, fixed-cnl}
+use Rattle.reader.proofs.KindLaws.{is-yes, is-no, goes-fixed}
 use Rattle.reader.proofs.bodies.read_body.Statement.{statement}
 use Rattle.reader.proofs.bodies.read_body.Tie as tie
-use Rattle.reader.proofs.bodies.read_body.Reads as reads
-use Rattle.reader.proofs.bodies.read_body.Lts as lts
-use Rattle.reader.proofs.bodies.cancellation_body.Reads as cancellation-body-reads
-use Rattle.reader.proofs.bodies.long_test_body.Reads as long-test-body-reads
-use Rattle.reader.proofs.bodies.test_body.Reads as test-body-reads
-use Rattle.reader.proofs.fixed.code_at.Reads as code-at-reads
-use Rattle.reader.proofs.reports.read_report.Reads as read-report-reads
 
 -- src/bodies.rt:80:9
 code-at-requires : tie.Need-code-at-requires
@@ -19,7 +21,13 @@ test-body-requires c κs = search needs
 
 -- src/bodies.rt:82:9
 returns : tie.Need-returns
-returns c = ?
+unfolding step stepForm
+returns c =
+    let k = c .before .before .before .code-at .ensures in
+    record {
+      says = λ o e l a. on-ends (goes-fixed (search needs) k fixed-test (c .before .if1 .taken) (atForm o) (atTest o) (rw (is-yes (search needs) k fixed-test (c .before .if1 .taken)))) refl
+          (c .test-body .ensures .says o);
+    }
 
 -- src/bodies.rt:85:9
 long-test-body-requires : tie.Need-long-test-body-requires
@@ -27,7 +35,16 @@ long-test-body-requires c κs = search needs
 
 -- src/bodies.rt:85:9
 returns-2 : tie.Need-returns-2
-returns-2 c = ?
+unfolding step stepForm
+returns-2 c =
+    let k = c .before .before .before .before .before .code-at .ensures in
+    record {
+      says = λ o e l a. on-ends
+          (goes-fixed (search needs) k fixed-test-stop (c .before .if2 .taken) (atForm o) (atTestText o 3 1)
+          (rw (is-no (search needs) k fixed-test (c .before .before .before .if1 .left), is-yes (search needs) k fixed-test-stop (c .before .if2 .taken))))
+          refl
+          (c .long-test-body .ensures .says o);
+    }
 
 -- src/bodies.rt:88:9
 cancellation-body-requires : tie.Need-cancellation-body-requires
@@ -35,7 +52,20 @@ cancellation-body-requires c κs = search needs
 
 -- src/bodies.rt:88:9
 returns-3 : tie.Need-returns-3
-returns-3 c = ?
+unfolding step stepForm
+returns-3 c =
+    let k = c .before .before .before .before .before .before .before .code-at .ensures in
+    record {
+      says = λ o e l a. on-ends
+          (goes-fixed (search needs) k fixed-cnl (c .before .if3 .taken) (atForm o) (atCancelSigmet o)
+          (rw (
+            is-no (search needs) k fixed-test (c .before .before .before .before .before .if1 .left),
+            is-no (search needs) k fixed-test-stop (c .before .before .before .if2 .left),
+            is-yes (search needs) k fixed-cnl (c .before .if3 .taken),
+          )))
+          refl
+          (c .cancellation-body .ensures .says o l);
+    }
 
 -- src/bodies.rt:96:9
 read-report-requires : tie.Need-read-report-requires
@@ -43,7 +73,16 @@ read-report-requires c κs = search needs
 
 -- src/bodies.rt:76:1
 returns-4 : tie.Need-returns-4
-returns-4 c = ?
+returns-4 c =
+    let k = c .before .before .before .before .before .before .before .before .before .before .code-at .ensures in
+    record {
+      says = λ o e l a. c .before .read-report .ensures .says o e a (ap (λ (x : FirstLine). timeOfDay (x .valid .to)) l)
+          (record {
+            no-test = is-no (search needs) k fixed-test (c .before .before .before .before .before .before .before .before .if1 .left);
+            no-long-test = is-no (search needs) k fixed-test-stop (c .before .before .before .before .before .before .if2 .left);
+            no-cancellation = is-no (search needs) k fixed-cnl (c .before .before .before .before .if3 .left);
+          });
+    }
 
 pub read-body-spec : {M : Type 1} → statement M
 read-body-spec =

@@ -1,11 +1,8 @@
+-- `test_body` meets its contract: the text of the test, and the `=`. Assumes nothing.
 use borrow.Author.Needs.{needs}
+use Rattle.grammar.specs.States.State.{atTest}
 use Rattle.reader.proofs.bodies.test_body.Statement.{statement}
 use Rattle.reader.proofs.bodies.test_body.Tie as tie
-use Rattle.reader.proofs.bodies.test_body.Reads as reads
-use Rattle.reader.proofs.bodies.test_body.Lts as lts
-use Rattle.reader.proofs.empties.no_report.Reads as no-report-reads
-use Rattle.reader.proofs.fixed.concluding.Reads as concluding-reads
-use Rattle.reader.proofs.tests.read_test.Reads as read-test-reads
 
 -- src/bodies.rt:31:9
 read-test-requires : tie.Need-read-test-requires
@@ -21,7 +18,7 @@ no-report-requires c κs = search needs
 
 -- src/bodies.rt:27:1
 returns : tie.Need-returns
-returns c = ?
+returns c = record { says = λ o. rw (c .no-report .ensures) (c .before .concluding .ensures .says (atTest o) _ _ (c .before .before .read-test .ensures .says o)) }
 
 pub test-body-spec : {M : Type 1} → statement M
 test-body-spec =

@@ -1,10 +1,8 @@
+-- `read_line` meets its contract: the line up to its sequence, then from `VALID` on. Assumes nothing.
 use borrow.Author.Needs.{needs}
+use Rattle.reader.proofs.Chains.{on, off}
 use Rattle.reader.proofs.first_line.read_line.Statement.{statement}
 use Rattle.reader.proofs.first_line.read_line.Tie as tie
-use Rattle.reader.proofs.first_line.read_line.Reads as reads
-use Rattle.reader.proofs.first_line.read_line.Lts as lts
-use Rattle.reader.proofs.first_line.read_unit.Reads as read-unit-reads
-use Rattle.reader.proofs.first_line.read_valid.Reads as read-valid-reads
 
 -- src/first_line.rt:118:9
 read-unit-requires : tie.Need-read-unit-requires
@@ -12,7 +10,7 @@ read-unit-requires c κs = search needs
 
 -- src/first_line.rt:130:9
 returns : tie.Need-returns
-returns c = ?
+returns c = record { says = λ h. off (c .before .before .before .read-unit .ensures .says h) (c .if1 .taken); within = search needs }
 
 -- src/first_line.rt:141:9
 read-valid-requires : tie.Need-read-valid-requires
@@ -20,7 +18,12 @@ read-valid-requires c κs = search needs
 
 -- src/first_line.rt:114:1
 returns-2 : tie.Need-returns-2
-returns-2 c = ?
+returns-2 c =
+    let first = c .before .before .before .before .before .read-unit in
+    record {
+      says = λ h. on (first .ensures .says h) (c .before .before .if1 .left) (c .before .read-valid .ensures .says h (first .result .unit) (first .result .sequence));
+      within = search needs;
+    }
 
 pub read-line-spec : {M : Type 1} → statement M
 read-line-spec = tie.close (tie.spec read-unit-requires returns read-valid-requires returns-2)

@@ -1,12 +1,10 @@
+-- `first_word` meets its contract: the word is no longer than the limit and in the name, and goes into the bytes of the empty name.
+-- Assumes nothing.
 use borrow.Author.Needs.{needs}
+use borrow.Author.Tests.{not-true, not-false}
+use Rattle.reader.proofs.NameText.{first-long, first-other, first-in}
 use Rattle.reader.proofs.naming.first_word.Statement.{statement}
 use Rattle.reader.proofs.naming.first_word.Tie as tie
-use Rattle.reader.proofs.naming.first_word.Reads as reads
-use Rattle.reader.proofs.naming.first_word.Lts as lts
-use Rattle.names.proofs.in_name.Reads as in-name-reads
-use Rattle.reader.proofs.empties.no_name.Reads as no-name-reads
-use Rattle.reader.proofs.fixed.word.Reads as word-reads
-use Rattle.reader.proofs.naming.put_word.Reads as put-word-reads
 
 -- src/naming.rt:44:9
 no-name-requires : tie.Need-no-name-requires
@@ -22,7 +20,7 @@ sub-long c = search needs
 
 -- src/naming.rt:50:9
 returns : tie.Need-returns
-returns c = ?
+returns c = first-long (c .before .word .ensures) _ (c .if1 .taken)
 
 -- src/naming.rt:56:17
 sub-in-name : tie.Need-sub-in-name
@@ -42,7 +40,7 @@ in-name-requires c κs = search needs
 
 -- src/naming.rt:57:9
 returns-2 : tie.Need-returns-2
-returns-2 c = ?
+returns-2 c = first-other (c .before .before .before .before .word .ensures) (c .before .in-name .ensures) _ (search (not-true, needs))
 
 -- src/naming.rt:64:36
 sub-put-word : tie.Need-sub-put-word
@@ -62,7 +60,10 @@ put-word-requires c κs = search needs
 
 -- src/naming.rt:40:1
 returns-3 : tie.Need-returns-3
-returns-3 c = ?
+returns-3 c =
+    let none = c .before .before .before .before .before .before .before .before .no-name in
+    first-in (c .before .before .before .before .before .before .before .word .ensures) (c .before .before .before .before .in-name .ensures) (none .result) _
+    (search (not-false, needs)) (search needs) (search needs) (none .ensures) (c .put-word .ensures)
 
 pub first-word-spec : {M : Type 1} → statement M
 first-word-spec =

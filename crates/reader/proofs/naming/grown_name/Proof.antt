@@ -1,9 +1,10 @@
+-- `grown_name` meets its contract: a space and the word behind a text are the text grown. Assumes nothing.
 use borrow.Author.Needs.{needs}
+use denote.Ref.{now}
+use mathlib.Core.Path.{refl}
+use Rattle.reader.proofs.NameText.{grown-says}
 use Rattle.reader.proofs.naming.grown_name.Statement.{statement}
 use Rattle.reader.proofs.naming.grown_name.Tie as tie
-use Rattle.reader.proofs.naming.grown_name.Reads as reads
-use Rattle.reader.proofs.naming.grown_name.Lts as lts
-use Rattle.reader.proofs.naming.put_word.Reads as put-word-reads
 
 -- src/naming.rt:79:5
 array-write-bytes : tie.Need-array-write-bytes
@@ -27,7 +28,9 @@ add-t11 c = search needs
 
 -- src/naming.rt:73:1
 returns : tie.Need-returns
-returns c = ?
+returns c =
+    let given = c .before .before .before .args in
+    grown-says (given .name) (now (given .w)) _ _ (search needs) (c .put-word .ensures) refl
 
 pub grown-name-spec : {M : Type 1} → statement M
 grown-name-spec =

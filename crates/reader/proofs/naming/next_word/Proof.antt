@@ -1,11 +1,9 @@
+-- `next_word` meets its contract: a word of the name for which there is room goes behind its text. Assumes nothing.
 use borrow.Author.Needs.{needs}
+use borrow.Author.Tests.{not-true, not-false}
+use Rattle.reader.proofs.NameText.{next-long, next-other, next-in}
 use Rattle.reader.proofs.naming.next_word.Statement.{statement}
 use Rattle.reader.proofs.naming.next_word.Tie as tie
-use Rattle.reader.proofs.naming.next_word.Reads as reads
-use Rattle.reader.proofs.naming.next_word.Lts as lts
-use Rattle.names.proofs.in_name.Reads as in-name-reads
-use Rattle.reader.proofs.fixed.word.Reads as word-reads
-use Rattle.reader.proofs.naming.grown_name.Reads as grown-name-reads
 
 -- src/naming.rt:92:9
 word-requires : tie.Need-word-requires
@@ -25,7 +23,7 @@ add-if1 c = search needs
 
 -- src/naming.rt:97:9
 returns : tie.Need-returns
-returns c = ?
+returns c = next-long (c .before .before .word .ensures) _ (search needs) (search needs) (c .if1 .taken)
 
 -- src/naming.rt:103:17
 sub-in-name : tie.Need-sub-in-name
@@ -45,7 +43,7 @@ in-name-requires c κs = search needs
 
 -- src/naming.rt:104:9
 returns-2 : tie.Need-returns-2
-returns-2 c = ?
+returns-2 c = next-other (c .before .before .before .before .before .word .ensures) (c .before .in-name .ensures) _ (search needs) (search (not-true, needs))
 
 -- src/naming.rt:110:33
 sub-grown-name : tie.Need-sub-grown-name
@@ -65,7 +63,9 @@ grown-name-requires c κs = search needs
 
 -- src/naming.rt:88:1
 returns-3 : tie.Need-returns-3
-returns-3 c = ?
+returns-3 c =
+    next-in (c .before .before .before .before .before .before .before .word .ensures) (c .before .before .before .in-name .ensures) _ _ (search (not-false, needs)) (search needs)
+    (c .grown-name .ensures) ?
 
 pub next-word-spec : {M : Type 1} → statement M
 next-word-spec =

@@ -1,45 +1,49 @@
+-- `put_word` meets its contract: after i turns the word's first i bytes are in. Assumes nothing.
+use borrow.Author.Needs.{needs}
+use mathlib.Core.Path.{_≡_, _∙_}
+use Prim.Native.Nat.{_-_, _≤_, zero-le}
+use native.Mathlib.Omega.{arith}
+use lib.ListN.{length, length-set}
+use lib.Seq.{paste, paste-zero}
+use Rattle.reader.proofs.NameText.{put-more, put-all}
 use Rattle.reader.proofs.naming.put_word.Statement.{statement}
 use Rattle.reader.proofs.naming.put_word.Tie as tie
-use Rattle.reader.proofs.naming.put_word.Reads as reads
-use Rattle.reader.proofs.naming.put_word.Lts as lts
 
 abbrev Inv-loop : tie.InvT-loop
-Inv-loop at w out₀ i₀ out i = ?
+Inv-loop at w out₀ i₀ out i = (i ≤ length w) × ((length out ≡ 50) × (out ≡ paste out₀ at w i))
 
 abbrev μ-loop : tie.MeasureT-loop
-μ-loop at w out₀ i₀ out i = ?
+μ-loop at w out₀ i₀ out i = length w - i
 
--- src/naming.rt:32:5
 loop-holds : tie.Need-loop-holds Inv-loop μ-loop
-loop-holds c = ?
+loop-holds c = (zero-le, (search needs, paste-zero (c .args .bytes) (c .args .at) (c .args .w .now)))
 
--- src/naming.rt:33:23
 shared-slice-read-out : tie.Need-shared-slice-read-out Inv-loop μ-loop
-shared-slice-read-out c = ?
+shared-slice-read-out c = omega arith
 
--- src/naming.rt:33:13
 add-out : tie.Need-add-out Inv-loop μ-loop
-add-out c = ?
+add-out c = omega arith
 
--- src/naming.rt:33:9
 array-write-out : tie.Need-array-write-out Inv-loop μ-loop
-array-write-out c = ?
+array-write-out c = omega arith
 
--- src/naming.rt:34:9
 add-i : tie.Need-add-i Inv-loop μ-loop
-add-i c = ?
+add-i c = omega arith
 
--- src/naming.rt:32:5
 loop-less : tie.Need-loop-less Inv-loop μ-loop
-loop-less c = ?
+loop-less c = omega arith
 
--- src/naming.rt:32:5
 loop-again : tie.Need-loop-again Inv-loop μ-loop
-loop-again c = ?
+loop-again c =
+    let given = c .before .before .before .args in
+    let now = c .before .before .loop in
+    let long : length (given .bytes) ≡ 50 = search needs in
+    (omega arith, (length-set (now .out) _ _ ∙ now .inv .1 .0, put-more (given .bytes) (given .at) (given .w .now) (now .out) (now .i) (omega arith) (omega arith) (now .inv .1 .1)))
 
--- src/naming.rt:26:1
 returns : tie.Need-returns Inv-loop μ-loop
-returns c = ?
+returns c =
+    let given = c .before .before .args in
+    put-all (given .bytes) (given .at) (given .w .now) (c .before .loop .out) (c .before .loop .i) (omega arith) (c .before .loop .inv .1 .1)
 
 pub put-word-spec : {M : Type 1} → statement M
 put-word-spec =

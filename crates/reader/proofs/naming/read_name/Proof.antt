@@ -1,43 +1,48 @@
+-- `read_name` meets its contract: each turn the words so far are the name, and the next one goes behind them or ends it. Assumes nothing.
+use borrow.Author.Needs.{needs}
+use borrow.Author.Tests.{not-true, not-false}
+use Prim.Native.Nat.{_-_}
+use native.Mathlib.Omega.{arith}
+use lib.ListN.{length}
+use Rattle.reader.proofs.NameText.{NamedSoFar, name-begun, name-refused, name-grown, name-ends}
 use Rattle.reader.proofs.naming.read_name.Statement.{statement}
 use Rattle.reader.proofs.naming.read_name.Tie as tie
-use Rattle.reader.proofs.naming.read_name.Reads as reads
-use Rattle.reader.proofs.naming.read_name.Lts as lts
-use Rattle.reader.proofs.naming.first_word.Reads as first-word-reads
-use Rattle.reader.proofs.naming.next_word.Reads as next-word-reads
 
 abbrev Inv-loop : tie.InvT-loop
-Inv-loop text at mountain limit refusal name₀ place₀ name place = ?
+Inv-loop text at mountain limit refusal name₀ place₀ name place = NamedSoFar mountain limit refusal text at place name
 
 abbrev μ-loop : tie.MeasureT-loop
-μ-loop text at mountain limit refusal name₀ place₀ name place = ?
+μ-loop text at mountain limit refusal name₀ place₀ name place = length text - place
 
 -- src/naming.rt:129:9
 first-word-requires : tie.Need-first-word-requires Inv-loop μ-loop
-first-word-requires c κs = ?
+first-word-requires c κs = search needs
 
 -- src/naming.rt:133:9
 returns : tie.Need-returns Inv-loop μ-loop
-returns c = ?
+returns c = name-refused (search needs) (c .before .before .before .first-word .ensures) (search (not-true, needs)) ?
 
 -- src/naming.rt:139:5
 loop-holds : tie.Need-loop-holds Inv-loop μ-loop
-loop-holds c = ?
+loop-holds c = name-begun (search needs) (c .before .before .before .first-word .ensures) (search (not-false, needs))
 
 -- src/naming.rt:140:13
 next-word-requires : tie.Need-next-word-requires Inv-loop μ-loop
-next-word-requires c κs = ?
+next-word-requires c κs = search needs
 
 -- src/naming.rt:142:13
 returns-2 : tie.Need-returns-2 Inv-loop μ-loop
-returns-2 c = ?
+returns-2 c = name-ends (c .before .before .before .loop .inv) (c .before .before .next-word .ensures) (search (not-true, needs))
 
 -- src/naming.rt:139:5
 loop-less : tie.Need-loop-less Inv-loop μ-loop
-loop-less c = ?
+loop-less c =
+    let next = c .before .before .before .next-word .ensures in
+    omega (arith, next .moves (search (not-false, needs)), next .within)
 
 -- src/naming.rt:139:5
 loop-again : tie.Need-loop-again Inv-loop μ-loop
-loop-again c = ?
+loop-again c = name-grown (c .before .before .before .before .loop .inv) (c .before .before .before .next-word .ensures) (search (not-false, needs))
 
 pub read-name-spec : {M : Type 1} → statement M
 read-name-spec =

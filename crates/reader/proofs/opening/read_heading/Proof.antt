@@ -1,10 +1,8 @@
+-- `read_heading` meets its contract: its first three words, then perhaps a correction. Assumes nothing.
 use borrow.Author.Needs.{needs}
+use Rattle.reader.proofs.Chains.{on, off}
 use Rattle.reader.proofs.opening.read_heading.Statement.{statement}
 use Rattle.reader.proofs.opening.read_heading.Tie as tie
-use Rattle.reader.proofs.opening.read_heading.Reads as reads
-use Rattle.reader.proofs.opening.read_heading.Lts as lts
-use Rattle.reader.proofs.opening.read_correction.Reads as read-correction-reads
-use Rattle.reader.proofs.opening.read_sent.Reads as read-sent-reads
 
 -- src/opening.rt:101:9
 read-sent-requires : tie.Need-read-sent-requires
@@ -12,7 +10,7 @@ read-sent-requires c κs = search needs
 
 -- src/opening.rt:105:9
 returns : tie.Need-returns
-returns c = ?
+returns c = record { says = off (c .before .before .before .before .read-sent .ensures .says) (c .if1 .taken); within = search needs }
 
 -- src/opening.rt:116:9
 read-correction-requires : tie.Need-read-correction-requires
@@ -20,7 +18,12 @@ read-correction-requires c κs = search needs
 
 -- src/opening.rt:97:1
 returns-2 : tie.Need-returns-2
-returns-2 c = ?
+returns-2 c =
+    let first = c .before .before .before .before .before .read-sent in
+    record {
+      says = on (first .ensures .says) (c .before .if1 .left) (c .read-correction .ensures .says (first .result .designator) (first .result .centre) (first .result .sent));
+      within = search needs;
+    }
 
 pub read-heading-spec : {M : Type 1} → statement M
 read-heading-spec =

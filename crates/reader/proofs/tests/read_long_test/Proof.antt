@@ -1,11 +1,8 @@
+-- `read_long_test` meets its contract: three parts, one after another. Assumes nothing.
 use borrow.Author.Needs.{needs}
+use Rattle.reader.proofs.Chains.{on, off}
 use Rattle.reader.proofs.tests.read_long_test.Statement.{statement}
 use Rattle.reader.proofs.tests.read_long_test.Tie as tie
-use Rattle.reader.proofs.tests.read_long_test.Reads as reads
-use Rattle.reader.proofs.tests.read_long_test.Lts as lts
-use Rattle.reader.proofs.tests.read_please.Reads as read-please-reads
-use Rattle.reader.proofs.tests.read_test_sigmet.Reads as read-test-sigmet-reads
-use Rattle.reader.proofs.tests.read_this_is_a.Reads as read-this-is-a-reads
 
 -- src/tests.rt:66:9
 read-this-is-a-requires : tie.Need-read-this-is-a-requires
@@ -13,7 +10,7 @@ read-this-is-a-requires c κs = search needs
 
 -- src/tests.rt:68:9
 returns : tie.Need-returns
-returns c = ?
+returns c = record { says = λ o. off (c .before .before .read-this-is-a .ensures .says o) (c .if1 .taken); within = search needs }
 
 -- src/tests.rt:70:9
 read-test-sigmet-requires : tie.Need-read-test-sigmet-requires
@@ -21,7 +18,11 @@ read-test-sigmet-requires c κs = search needs
 
 -- src/tests.rt:72:9
 returns-2 : tie.Need-returns-2
-returns-2 c = ?
+returns-2 c =
+    record {
+      says = λ o. off (on (c .before .before .before .before .before .read-this-is-a .ensures .says o) (c .before .before .before .if1 .left) (c .before .before .read-test-sigmet .ensures .says o)) (c .if2 .taken);
+      within = search needs;
+    }
 
 -- src/tests.rt:74:5
 read-please-requires : tie.Need-read-please-requires
@@ -29,7 +30,12 @@ read-please-requires c κs = search needs
 
 -- src/tests.rt:62:1
 returns-3 : tie.Need-returns-3
-returns-3 c = ?
+returns-3 c =
+    record {
+      says = λ o. on (c .before .before .before .before .before .before .read-this-is-a .ensures .says o) (c .before .before .before .before .if1 .left)
+          (on (c .before .before .before .read-test-sigmet .ensures .says o) (c .before .if2 .left) (c .read-please .ensures .third o));
+      within = search needs;
+    }
 
 pub read-long-test-spec : {M : Type 1} → statement M
 read-long-test-spec =

@@ -1,10 +1,13 @@
+-- `read_test` meets its contract: without SIGMET the test is over, and with it the second text goes on. Assumes nothing.
 use borrow.Author.Needs.{needs}
+use mathlib.Core.Path.{refl}
+use borrow.Author.Tests.{not-true, not-false}
+use Rattle.grammar.specs.States.State.{atTest, atTestText}
+use Rattle.grammar.specs.Steps.{step}
+use Rattle.reader.proofs.Chains.{on}
+use Rattle.reader.proofs.FixedWords.{fixed-sigmet}
 use Rattle.reader.proofs.tests.read_test.Statement.{statement}
 use Rattle.reader.proofs.tests.read_test.Tie as tie
-use Rattle.reader.proofs.tests.read_test.Reads as reads
-use Rattle.reader.proofs.tests.read_test.Lts as lts
-use Rattle.reader.proofs.fixed.perhaps_at.Reads as perhaps-at-reads
-use Rattle.reader.proofs.tests.read_please.Reads as read-please-reads
 
 -- src/tests.rt:82:9
 perhaps-at-requires : tie.Need-perhaps-at-requires
@@ -12,7 +15,8 @@ perhaps-at-requires c κs = search needs
 
 -- src/tests.rt:84:9
 returns : tie.Need-returns
-returns c = ?
+unfolding step
+returns c = record { says = λ o. c .before .before .perhaps-at .ensures .without (search (not-true, needs)) _ fixed-sigmet (atTest o) _ (λ n. rw n) refl; within = search needs }
 
 -- src/tests.rt:90:9
 read-please-requires : tie.Need-read-please-requires
@@ -20,7 +24,13 @@ read-please-requires c κs = search needs
 
 -- src/tests.rt:78:1
 returns-2 : tie.Need-returns-2
-returns-2 c = ?
+unfolding step
+returns-2 c =
+    record {
+      says = λ o. on (c .before .before .before .perhaps-at .ensures .with (search (not-false, needs)) _ fixed-sigmet (atTest o) (atTestText o 2 2) (λ y. rw y)) refl
+          (c .read-please .ensures .second o);
+      within = search needs;
+    }
 
 pub read-test-spec : {M : Type 1} → statement M
 read-test-spec = tie.close (tie.spec perhaps-at-requires returns read-please-requires returns-2)

@@ -1,9 +1,13 @@
+-- `read_test_sigmet` meets its contract: the fifth and sixth word of the longest text. Assumes nothing.
 use borrow.Author.Needs.{needs}
+use mathlib.Core.Path.{refl}
+use Rattle.message.specs.Words.{testTexts}
+use Rattle.grammar.specs.States.State.{atTestText}
+use Rattle.grammar.specs.Steps.{step}
+use Rattle.reader.proofs.Chains.{on, off}
+use Rattle.reader.proofs.FixedWords.{fixed-test, fixed-sigmet-comma}
 use Rattle.reader.proofs.tests.read_test_sigmet.Statement.{statement}
 use Rattle.reader.proofs.tests.read_test_sigmet.Tie as tie
-use Rattle.reader.proofs.tests.read_test_sigmet.Reads as reads
-use Rattle.reader.proofs.tests.read_test_sigmet.Lts as lts
-use Rattle.reader.proofs.fixed.fixed_at.Reads as fixed-at-reads
 
 -- src/tests.rt:54:9
 fixed-at-requires : tie.Need-fixed-at-requires
@@ -11,7 +15,8 @@ fixed-at-requires c κs = search needs
 
 -- src/tests.rt:56:9
 returns : tie.Need-returns
-returns c = ?
+unfolding step testTexts
+returns c = record { says = λ o. off (c .before .before .fixed-at .ensures .says _ fixed-test (atTestText o 3 4) (atTestText o 3 5) refl refl) (c .if1 .taken); within = search needs }
 
 -- src/tests.rt:58:5
 fixed-at-requires-2 : tie.Need-fixed-at-requires-2
@@ -19,7 +24,13 @@ fixed-at-requires-2 c κs = search needs
 
 -- src/tests.rt:50:1
 returns-2 : tie.Need-returns-2
-returns-2 c = ?
+unfolding step testTexts
+returns-2 c =
+    record {
+      says = λ o. on (c .before .before .before .fixed-at .ensures .says _ fixed-test (atTestText o 3 4) (atTestText o 3 5) refl refl) (c .before .if1 .left)
+          (c .fixed-at2 .ensures .says _ fixed-sigmet-comma (atTestText o 3 5) (atTestText o 3 6) refl refl);
+      within = search needs;
+    }
 
 pub read-test-sigmet-spec : {M : Type 1} → statement M
 read-test-sigmet-spec =

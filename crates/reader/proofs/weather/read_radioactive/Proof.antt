@@ -1,9 +1,11 @@
+-- `read_radioactive` meets its contract: one fixed word. Assumes nothing.
 use borrow.Author.Needs.{needs}
+use mathlib.Core.Path.{refl}
+use Rattle.grammar.specs.States.State.{atRadioactive}
+use Rattle.grammar.specs.Steps.{step}
+use Rattle.reader.proofs.FixedWords.{fixed-cld}
 use Rattle.reader.proofs.weather.read_radioactive.Statement.{statement}
 use Rattle.reader.proofs.weather.read_radioactive.Tie as tie
-use Rattle.reader.proofs.weather.read_radioactive.Reads as reads
-use Rattle.reader.proofs.weather.read_radioactive.Lts as lts
-use Rattle.reader.proofs.fixed.fixed_at.Reads as fixed-at-reads
 
 -- src/weather.rt:119:9
 fixed-at-requires : tie.Need-fixed-at-requires
@@ -11,7 +13,8 @@ fixed-at-requires c κs = search needs
 
 -- src/weather.rt:115:1
 returns : tie.Need-returns
-returns c = ?
+unfolding step
+returns c = record { says = λ o. c .fixed-at .ensures .says _ fixed-cld (atRadioactive o) _ refl refl; within = search needs }
 
 pub read-radioactive-spec : {M : Type 1} → statement M
 read-radioactive-spec = tie.close (tie.spec fixed-at-requires returns)

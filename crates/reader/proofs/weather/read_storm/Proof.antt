@@ -1,9 +1,12 @@
+-- `read_storm` meets its contract: a choice of two words by their codes. Assumes nothing.
 use borrow.Author.Needs.{needs}
+use mathlib.Core.Path.{refl}
+use Rattle.grammar.specs.States.State.{atStorm}
+use Rattle.grammar.specs.Steps.{step}
+use Rattle.reader.proofs.FixedWords.{fixed-ts, fixed-tsgr}
+use Rattle.reader.proofs.KindLaws.{is-yes, is-no, goes-fixed, dead-word}
 use Rattle.reader.proofs.weather.read_storm.Statement.{statement}
 use Rattle.reader.proofs.weather.read_storm.Tie as tie
-use Rattle.reader.proofs.weather.read_storm.Reads as reads
-use Rattle.reader.proofs.weather.read_storm.Lts as lts
-use Rattle.reader.proofs.fixed.code_at.Reads as code-at-reads
 
 -- src/weather.rt:23:9
 code-at-requires : tie.Need-code-at-requires
@@ -19,7 +22,10 @@ sub-t7 c = search needs
 
 -- src/weather.rt:25:9
 returns : tie.Need-returns
-returns c = ?
+unfolding step
+returns c =
+    let k = c .before .before .code-at .ensures in
+    record { says = λ o. goes-fixed (search needs) k fixed-ts (c .if1 .taken) (atStorm o _) _ (rw (is-yes (search needs) k fixed-ts (c .if1 .taken))); within = search needs }
 
 -- src/weather.rt:35:25
 mul-t8 : tie.Need-mul-t8
@@ -27,11 +33,25 @@ mul-t8 c = search needs
 
 -- src/weather.rt:32:9
 returns-2 : tie.Need-returns-2
-returns-2 c = ?
+unfolding step
+returns-2 c =
+    let k = c .before .before .before .before .code-at .ensures in
+    record {
+      says = λ o. goes-fixed (search needs) k fixed-tsgr (c .if2 .taken) (atStorm o _) _
+          (rw (is-no (search needs) k fixed-ts (c .before .before .if1 .left), is-yes (search needs) k fixed-tsgr (c .if2 .taken)));
+      within = search needs;
+    }
 
 -- src/weather.rt:19:1
 returns-3 : tie.Need-returns-3
-returns-3 c = ?
+unfolding step
+returns-3 c =
+    let k = c .before .before .before .before .code-at .ensures in
+    record {
+      says = λ o. dead-word (search needs) (k .word) (atStorm o _) _ 7 refl
+          (rw (is-no (search needs) k fixed-ts (c .before .before .if1 .left), is-no (search needs) k fixed-tsgr (c .if2 .left)));
+      within = search needs;
+    }
 
 pub read-storm-spec : {M : Type 1} → statement M
 read-storm-spec =

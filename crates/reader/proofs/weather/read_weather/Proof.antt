@@ -1,14 +1,19 @@
+-- `read_weather` meets its contract: a storm is told by its place in the table of codes, and the rest is a choice by codes. Assumes nothing.
 use borrow.Author.Needs.{needs}
+use mathlib.Core.Bool.{false}
+use mathlib.Core.Path.{_≡_, refl, _∙_}
+use Rattle.lists.specs.Base.{worthAfter}
+use Rattle.lists.specs.Lists.{allOf}
+use Rattle.figures.specs.Keywords.{codeOf}
+use Rattle.grammar.specs.States.State.{atForm, atSevere, atHeavy, atRadioactive}
+use Rattle.grammar.specs.Steps.{stormWords, stormOf, goodStorm}
+use Rattle.reader.specs.Going.{wordFrom}
+use Rattle.reader.proofs.Chains.{on}
+use Rattle.reader.proofs.FixedWords.{fixed-sev, fixed-hvy, fixed-rdoact}
+use Rattle.reader.proofs.Forming.{goes-storm, no-storm}
+use Rattle.reader.proofs.KindLaws.{is-yes, is-no, goes-fixed, dead-word}
 use Rattle.reader.proofs.weather.read_weather.Statement.{statement}
 use Rattle.reader.proofs.weather.read_weather.Tie as tie
-use Rattle.reader.proofs.weather.read_weather.Reads as reads
-use Rattle.reader.proofs.weather.read_weather.Lts as lts
-use Rattle.figures.proofs.find.Reads as find-reads
-use Rattle.reader.proofs.fixed.code_at.Reads as code-at-reads
-use Rattle.reader.proofs.weather.read_heavy.Reads as read-heavy-reads
-use Rattle.reader.proofs.weather.read_radioactive.Reads as read-radioactive-reads
-use Rattle.reader.proofs.weather.read_severe.Reads as read-severe-reads
-use Rattle.reader.proofs.weather.read_storm.Reads as read-storm-reads
 
 -- src/weather.rt:131:9
 code-at-requires : tie.Need-code-at-requires
@@ -36,7 +41,17 @@ read-storm-requires c κs = search needs
 
 -- src/weather.rt:134:9
 returns : tie.Need-returns
-returns c = ?
+unfolding codeOf worthAfter allOf stormWords
+returns c =
+    record {
+      says = λ o j. on (goes-storm (c .before .before .before .before .code-at .ensures) (c .before .before .find .ensures) refl (search needs) (c .before .if1 .taken) o j) refl (c .read-storm .ensures .says o);
+      within = search needs;
+    }
+
+-- the word is no storm's
+other : (c : tie.Else1) → goodStorm (stormOf (wordFrom (c .before .before .before .before .before .args .text .now) (c .before .before .before .before .before .args .at))) ≡ false
+unfolding codeOf worthAfter allOf stormWords
+other c = no-storm (c .before .before .before .code-at .ensures) (c .before .find .ensures) refl (c .if1 .left)
 
 -- src/weather.rt:137:9
 read-severe-requires : tie.Need-read-severe-requires
@@ -44,7 +59,15 @@ read-severe-requires c κs = search needs
 
 -- src/weather.rt:137:9
 returns-2 : tie.Need-returns-2
-returns-2 c = ?
+returns-2 c =
+    let k = c .before .before .before .before .before .before .code-at .ensures in
+    record {
+      says = λ o j. on
+          (goes-fixed (search needs) k fixed-sev (c .before .if2 .taken) (atForm o) (atSevere o) (j ∙ rw (other (c .before .before .before), is-yes (search needs) k fixed-sev (c .before .if2 .taken))))
+          refl
+          (c .read-severe .ensures .says o);
+      within = search needs;
+    }
 
 -- src/weather.rt:140:9
 read-heavy-requires : tie.Need-read-heavy-requires
@@ -52,7 +75,16 @@ read-heavy-requires c κs = search needs
 
 -- src/weather.rt:140:9
 returns-3 : tie.Need-returns-3
-returns-3 c = ?
+returns-3 c =
+    let k = c .before .before .before .before .before .before .before .before .code-at .ensures in
+    record {
+      says = λ o j. on
+          (goes-fixed (search needs) k fixed-hvy (c .before .if3 .taken) (atForm o) (atHeavy o)
+          (j ∙ rw (other (c .before .before .before .before .before), is-no (search needs) k fixed-sev (c .before .before .before .if2 .left), is-yes (search needs) k fixed-hvy (c .before .if3 .taken))))
+          refl
+          (c .read-heavy .ensures .says o);
+      within = search needs;
+    }
 
 -- src/weather.rt:143:9
 read-radioactive-requires : tie.Need-read-radioactive-requires
@@ -60,11 +92,36 @@ read-radioactive-requires c κs = search needs
 
 -- src/weather.rt:143:9
 returns-4 : tie.Need-returns-4
-returns-4 c = ?
+returns-4 c =
+    let k = c .before .before .before .before .before .before .before .before .before .before .code-at .ensures in
+    record {
+      says = λ o j. on
+          (goes-fixed (search needs) k fixed-rdoact (c .before .if4 .taken) (atForm o) (atRadioactive o)
+          (j ∙ rw (
+            other (c .before .before .before .before .before .before .before),
+            is-no (search needs) k fixed-sev (c .before .before .before .before .before .if2 .left),
+            is-no (search needs) k fixed-hvy (c .before .before .before .if3 .left),
+            is-yes (search needs) k fixed-rdoact (c .before .if4 .taken),
+          )))
+          refl
+          (c .read-radioactive .ensures .says o);
+      within = search needs;
+    }
 
 -- src/weather.rt:127:1
 returns-5 : tie.Need-returns-5
-returns-5 c = ?
+returns-5 c =
+    let k = c .before .before .before .before .before .before .before .before .before .code-at .ensures in
+    record {
+      says = λ o j. dead-word (search needs) (k .word) (atForm o) _ 7 refl
+          (j ∙ rw (
+            other (c .before .before .before .before .before .before),
+            is-no (search needs) k fixed-sev (c .before .before .before .before .if2 .left),
+            is-no (search needs) k fixed-hvy (c .before .before .if3 .left),
+            is-no (search needs) k fixed-rdoact (c .if4 .left),
+          ));
+      within = search needs;
+    }
 
 pub read-weather-spec : {M : Type 1} → statement M
 read-weather-spec =

@@ -1,0 +1,153 @@
+-- What the forms of a message do with a word that the code tells by its code, by its number among the keywords or by its place in a table.
+-- Assumes nothing.
+use mathlib.Core.Bool.{Bool, true, false}
+use mathlib.Core.List.{List, [], map}
+use mathlib.Core.Path.{_≡_, refl, ap, sym, _∙_, subst}
+use Prim.Native.Nat.{ℕ, _+_, _-_, _≤_, _<_}
+use native.Mathlib.Omega.{arith}
+use lib.Dec.{eqb}
+use lib.ListN.{length, replicate}
+use borrow.Author.Tests.{lt-ltb, le-ltb, le-leb, lt-leb, eq-eqb, ne-eqb}
+use Rattle.lists.specs.Lists.{allOf, indexOf, indexFrom, part, same}
+use Rattle.lists.specs.Text.{bytes}
+use Rattle.lists.proofs.Choice.{by, clash, both-true, both-false-right}
+use Rattle.lists.proofs.Lists.{same-refl, same-is}
+use Rattle.words.specs.Bytes.{blank}
+use Rattle.words.specs.Words.{spanOf}
+use Rattle.figures.specs.Keywords.{short, codeOf, wordIn}
+use Rattle.figures.proofs.Keywords.{find-word}
+use Rattle.figures.proofs.Kept.{reads-spelled}
+use Rattle.keywords.specs.Keywords.{shortKeywords, longKeywords, keywords, keywordOf, goodKeyword, spellKeyword}
+use Rattle.keywords.proofs.KeywordLaws.{keyword-reads}
+use Rattle.names.specs.Names.{inName}
+use Rattle.message.specs.Limits.{mountainLimit}
+use Rattle.message.specs.Names.{noName}
+use Rattle.message.specs.declared.Record.{Record}
+use Rattle.grammar.specs.Records.{testOf}
+use Rattle.grammar.specs.Runs.{runAt}
+use Rattle.grammar.specs.Runs.Ran.{accepted, refused}
+use Rattle.grammar.specs.States.{ToArea}
+use Rattle.grammar.specs.States.State.{atForm, atStorm, atSevere, atIce, atAsh, atEruption, atMoreMountain, atPosition, atEnd}
+use Rattle.grammar.specs.Steps.{goesIf, grown, goneOn, stormWords, stormOf, goodStorm, stepWeather, step}
+use Rattle.reader.specs.Going.{Goes, wordFrom}
+use Rattle.reader.specs.Kinds.{Fixed, Perhaps, CodeAt}
+use Rattle.reader.proofs.Chains.{on}
+use Rattle.reader.proofs.FixedWords.{fixed-turb, fixed-ice, fixed-cld, fixed-mt, fixed-psn}
+use Rattle.reader.proofs.Going.{dead-at, done-at, some-word}
+use Rattle.reader.proofs.KindLaws.{goes-word, is-yes, is-no, goes-fixed}
+
+-- A keyword, by its number.
+
+keyword-spelled : (n : ℕ) (w : List ℕ) → goodKeyword n ≡ true → n ≡ keywordOf w → same w (spellKeyword n) ≡ true
+keyword-spelled n w g e =
+    ap (same w) (ap spellKeyword e ∙ reads-spelled keyword-reads w (subst (λ (m : ℕ). goodKeyword m ≡ true) e g)) ∙ same-refl w
+
+keyword-told : (n : ℕ) (w : List ℕ) → goodKeyword n ≡ true → same w (spellKeyword n) ≡ eqb n (keywordOf w)
+keyword-told n w g =
+    by (same w (spellKeyword n))
+    (λ e. e ∙ sym (eq-eqb n (keywordOf w) (sym (ap keywordOf (same-is w (spellKeyword n) e) ∙ keyword-reads .forth n g))))
+    (λ f. f ∙ sym (ne-eqb n (keywordOf w) (λ z. clash (same w (spellKeyword n)) (keyword-spelled n w g z) f)))
+
+pub eruption-told : (w : List ℕ) → same w (bytes "ERUPTION") ≡ eqb 42 (keywordOf w)
+unfolding keywords shortKeywords longKeywords
+eruption-told w = keyword-told 42 w refl
+
+pub disregard-told : (w : List ℕ) → same w (bytes "DISREGARD") ≡ eqb 43 (keywordOf w)
+unfolding keywords shortKeywords longKeywords
+disregard-told w = keyword-told 43 w refl
+
+-- The storms' first words, by the place of a word's code among theirs.
+
+storms-short : allOf short stormWords ≡ true
+unfolding stormWords allOf
+storms-short = refl
+
+storms-count : length stormWords ≡ 4
+unfolding stormWords
+storms-count = refl
+
+storm-none : goodStorm (stormOf []) ≡ false
+unfolding stormWords indexOf same
+storm-none = refl
+
+module _ {t : List ℕ} {at start end code n : ℕ} {codes : List ℕ} (k : CodeAt t at start end code) (f : n ≡ indexOf (eqb code) codes) (p : codes ≡ map codeOf stormWords) where
+  storm-place : n ≡ wordIn stormWords (wordFrom t at)
+  storm-place = rw (f, p, k .coded) (find-word stormWords (wordFrom t at) storms-short)
+
+  storm-number : n < 4 → stormOf (wordFrom t at) ≡ n + 1
+  storm-number l =
+      rw (lt-ltb (wordIn stormWords (wordFrom t at)) (length stormWords) (omega (arith, storm-place, storms-count))) (omega (arith, storm-place))
+
+  -- the word is a storm's
+  pub goes-storm : at ≤ length t → n < 4 → (o : ToArea) → step (atForm o) (wordFrom t at) ≡ stepWeather o (wordFrom t at) → Goes (atForm o) t at 0 end (atStorm o (n + 1))
+  goes-storm h l o j =
+      let good : goodStorm (stormOf (wordFrom t at)) ≡ true =
+      rw (storm-number l) (both-true (le-leb 1 (n + 1) (omega arith)) (le-leb (n + 1) (1 + length stormWords - 1) (omega (arith, storms-count)))) in
+      goes-word h (k .word) (atForm o) (atStorm o (n + 1)) (some-word (λ (x : List ℕ). goodStorm (stormOf x)) (wordFrom t at) storm-none good)
+      (j ∙ rw (good, storm-number l))
+
+  -- the word is none of theirs
+  pub no-storm : 4 ≤ n → goodStorm (stormOf (wordFrom t at)) ≡ false
+  no-storm l = rw (le-ltb (wordIn stormWords (wordFrom t at)) (length stormWords) (omega (arith, storm-place, storms-count)))
+
+-- A word by its code, where the machine makes other tests before, or tells the word otherwise.
+module _ {t : List ℕ} {at start end code : ℕ} (h : at ≤ length t) (k : CodeAt t at start end code) where
+  -- `SEV ICE`
+  pub goes-ice : code ≡ 0x01494345 → (o : ToArea) → Goes (atSevere o) t at 0 end (atIce o)
+  unfolding step
+  goes-ice e o = goes-fixed h k fixed-ice e (atSevere o) (atIce o) (rw (is-no h k fixed-turb (λ z. omega arith), is-yes h k fixed-ice e))
+
+  -- after `VA`, a word other than `CLD`
+  pub ash-erupts : (code ≡ 0x01434c44 → ⊥) → (o : ToArea) → step (atAsh o) (wordFrom t at) ≡ goesIf (eqb 42 (keywordOf (wordFrom t at))) (atEruption o)
+  unfolding step
+  ash-erupts e o = rw (is-no h k fixed-cld e, eruption-told (wordFrom t at))
+
+-- A word after `VA ERUPTION` that is not `MT`. No other state takes just what is left to take there, which is what `Perhaps` asks for: so the
+-- word is known again by where the machine refuses it in a state that takes the `=` only.
+
+word-by-start : (t : List ℕ) (a b : ℕ) → spanOf t a .start ≡ spanOf t b .start → wordFrom t a ≡ wordFrom t b
+unfolding spanOf
+word-by-start t a b e = ap (λ (s : ℕ). part s (indexFrom blank s t) t) e
+
+position-no : (w k : List ℕ) → same (bytes "PSN") k ≡ false → same w (bytes "PSN") ≡ true → same w k ≡ false
+position-no w k n y = rw (same-is w (bytes "PSN") y) n
+
+-- a name with no room for another word
+full : List ℕ
+full = replicate mountainLimit 0
+
+full-stops : (w : List ℕ) → goneOn true mountainLimit full w ≡ false
+unfolding full
+full-stops w = both-false-right (inName true w) (lt-leb (length (grown full w)) mountainLimit (omega arith))
+
+module _ {t : List ℕ} {at place : ℕ} {found : Bool} (h : at ≤ length t) (e : found ≡ false) (p : Perhaps 0x014d54 t at found place) where
+  word-stays : (r : Record) → same (wordFrom t at) [] ≡ false → wordFrom t place ≡ wordFrom t at
+  unfolding step same
+  word-stays r n =
+      let stays : runAt (atEnd r) t at ≡ runAt (atEnd r) t place = p .without e _ fixed-mt (atEnd r) (atEnd r) (λ _. refl) refl .says in
+      let here : runAt (atEnd r) t at ≡ refused 12 (spanOf t at .start) = dead-at (atEnd r) t at h (rw n) in
+      by (same (wordFrom t place) [])
+      (λ y.
+      let there : runAt (atEnd r) t place ≡ accepted r = done-at (atEnd r) r t place (p .within) (ap length (same-is (wordFrom t place) [] y)) refl in
+      let never : _≡_ {A = ℕ} 0 1 = cc in
+      absurd (omega arith))
+      (λ m.
+      let there : runAt (atEnd r) t place ≡ refused 12 (spanOf t place .start) = dead-at (atEnd r) t place (p .within) (rw m) in
+      word-by-start t place at (cc))
+
+  position-stays : (r : Record) → same (wordFrom t place) (bytes "PSN") ≡ false → same (wordFrom t at) (bytes "PSN") ≡ false
+  unfolding same
+  position-stays r n =
+      by (same (wordFrom t at) (bytes "PSN"))
+      (λ y. clash (same (wordFrom t place) (bytes "PSN")) (ap (λ (w : List ℕ). same w (bytes "PSN")) (word-stays r (position-no (wordFrom t at) [] refl y)) ∙ y) n)
+      (λ m. m)
+
+  -- then it is `PSN`, or refused
+  pub no-mountain : {number after : ℕ} (o : ToArea) → Fixed 0x0150534e 7 t place number after → Goes (atEruption o) t at number after (atPosition o noName)
+  unfolding step same
+  no-mountain o q =
+      by (same (wordFrom t place) (bytes "PSN"))
+      (λ y. on (p .without e _ fixed-mt (atEruption o) (atEruption o) (λ _. refl) refl) refl
+      (q .says _ fixed-psn (atEruption o) (atPosition o noName) (rw (position-no (wordFrom t place) (bytes "MT") refl y)) refl))
+      (λ n. on (p .without e _ fixed-mt (atEruption o) (atMoreMountain o full) (λ m. rw (m, position-stays (testOf o 1) n, full-stops (wordFrom t at))) refl) refl
+      (q .says _ fixed-psn (atMoreMountain o full) (atPosition o noName) (rw (n, full-stops (wordFrom t place))) refl))
