@@ -4,3 +4,4 @@ pub mod KindLaws
 pub mod Tells
 pub mod FixedWords
 pub mod Sides
+pub mod OutlineLaws
