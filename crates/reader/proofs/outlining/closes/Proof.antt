@@ -1,10 +1,8 @@
+-- `closes` meets its contract: with no point so far none closes the outline, else the first point is the list's. Assumes nothing.
 use borrow.Author.Needs.{needs}
 use Rattle.reader.proofs.OutlineLaws.{none-closes, same-closes}
 use Rattle.reader.proofs.outlining.closes.Statement.{statement}
 use Rattle.reader.proofs.outlining.closes.Tie as tie
-use Rattle.reader.proofs.outlining.closes.Reads as reads
-use Rattle.reader.proofs.outlining.closes.Lts as lts
-use Rattle.coordinates.proofs.same_point.Reads as same-point-reads
 
 -- src/outlining.rt:48:9
 returns : tie.Need-returns

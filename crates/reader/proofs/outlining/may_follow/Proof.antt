@@ -1,11 +1,8 @@
+-- `may_follow` meets its contract: with no point so far any latitude follows, else count and first point decide as the list does. Assumes nothing.
 use borrow.Author.Needs.{needs}
 use Rattle.reader.proofs.OutlineLaws.{first-follows, next-follows}
 use Rattle.reader.proofs.outlining.may_follow.Statement.{statement}
 use Rattle.reader.proofs.outlining.may_follow.Tie as tie
-use Rattle.reader.proofs.outlining.may_follow.Reads as reads
-use Rattle.reader.proofs.outlining.may_follow.Lts as lts
-use Rattle.coordinates.proofs.same_latitude.Reads as same-latitude-reads
-use Rattle.lists.proofs.either.Reads as either-reads
 
 -- src/outlining.rt:37:9
 returns : tie.Need-returns

@@ -1,5 +1,6 @@
+-- `next_point` meets its contract: the latitude, the longitude and, where the outline is open, the `-`, one after another. Assumes nothing.
 use borrow.Author.Needs.{needs}
-use mathlib.Core.Bool.{true, false}
+use mathlib.Core.Bool.{false}
 use mathlib.Core.List.{[], _∷_, _++_}
 use mathlib.Core.Path.{refl}
 use Rattle.lists.proofs.Choice.{clash}
@@ -11,11 +12,6 @@ use Rattle.reader.proofs.OutlineLaws.{latitude-on, point-closing, point
 use Rattle.reader.proofs.Sides.{fixed-on}
 use Rattle.reader.proofs.outlining.next_point.Statement.{statement}
 use Rattle.reader.proofs.outlining.next_point.Tie as tie
-use Rattle.reader.proofs.outlining.next_point.Reads as reads
-use Rattle.reader.proofs.outlining.next_point.Lts as lts
-use Rattle.reader.proofs.fixed.fixed_at.Reads as fixed-at-reads
-use Rattle.reader.proofs.outlining.next_latitude.Reads as next-latitude-reads
-use Rattle.reader.proofs.outlining.next_longitude.Reads as next-longitude-reads
 
 -- src/outlining.rt:137:9
 next-latitude-requires : tie.Need-next-latitude-requires

@@ -1,3 +1,4 @@
+-- `read_outline` meets its contract: the points read stand at the head of the array, and as many are left as there is room. Assumes nothing.
 use borrow.Author.Needs.{needs}
 use Prim.Native.Nat.{_-_}
 use native.Mathlib.Omega.{arith}
@@ -5,11 +6,6 @@ use Rattle.message.specs.Limits.{mostPoints}
 use Rattle.reader.proofs.OutlineLaws.{Gone, gone-none, gone-refused, gone-on, gone-over}
 use Rattle.reader.proofs.outlining.read_outline.Statement.{statement}
 use Rattle.reader.proofs.outlining.read_outline.Tie as tie
-use Rattle.reader.proofs.outlining.read_outline.Reads as reads
-use Rattle.reader.proofs.outlining.read_outline.Lts as lts
-use Rattle.reader.proofs.empties.no_extent.Reads as no-extent-reads
-use Rattle.reader.proofs.empties.no_point.Reads as no-point-reads
-use Rattle.reader.proofs.outlining.next_point.Reads as next-point-reads
 
 abbrev Inv-loop : tie.InvT-loop
 Inv-loop text at refusal points₀ count₀ place₀ points count place = Gone text at refusal points count place
