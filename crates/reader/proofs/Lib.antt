@@ -8,3 +8,4 @@ pub mod Closing
 pub mod Determined
 pub mod Forming
 pub mod NameText
+pub mod OutlineLaws

@@ -1,13 +1,12 @@
+-- `closes` meets its contract: with no point so far none closes the outline, else the first point is the list's. Assumes nothing.
 use borrow.Author.Needs.{needs}
+use Rattle.reader.proofs.OutlineLaws.{none-closes, same-closes}
 use Rattle.reader.proofs.outlining.closes.Statement.{statement}
 use Rattle.reader.proofs.outlining.closes.Tie as tie
-use Rattle.reader.proofs.outlining.closes.Reads as reads
-use Rattle.reader.proofs.outlining.closes.Lts as lts
-use Rattle.coordinates.proofs.same_point.Reads as same-point-reads
 
 -- src/outlining.rt:48:9
 returns : tie.Need-returns
-returns c = ?
+returns c = none-closes (c .if1 .taken) _
 
 -- src/outlining.rt:50:5
 same-point-requires : tie.Need-same-point-requires
@@ -15,7 +14,7 @@ same-point-requires c κs = search needs
 
 -- src/outlining.rt:44:1
 returns-2 : tie.Need-returns-2
-returns-2 c = ?
+returns-2 c = rw (c .same-point .ensures) (same-closes (c .before .if1 .left) _)
 
 pub closes-spec : {M : Type 1} → statement M
 closes-spec = tie.close (tie.spec returns same-point-requires returns-2)

@@ -1,14 +1,12 @@
+-- `may_follow` meets its contract: with no point so far any latitude follows, else count and first point decide as the list does. Assumes nothing.
 use borrow.Author.Needs.{needs}
+use Rattle.reader.proofs.OutlineLaws.{first-follows, next-follows}
 use Rattle.reader.proofs.outlining.may_follow.Statement.{statement}
 use Rattle.reader.proofs.outlining.may_follow.Tie as tie
-use Rattle.reader.proofs.outlining.may_follow.Reads as reads
-use Rattle.reader.proofs.outlining.may_follow.Lts as lts
-use Rattle.coordinates.proofs.same_latitude.Reads as same-latitude-reads
-use Rattle.lists.proofs.either.Reads as either-reads
 
 -- src/outlining.rt:37:9
 returns : tie.Need-returns
-returns c = ?
+returns c = first-follows (c .if1 .taken) _
 
 -- src/outlining.rt:40:12
 add-either : tie.Need-add-either
@@ -24,7 +22,7 @@ either-requires c κs = search needs
 
 -- src/outlining.rt:32:1
 returns-2 : tie.Need-returns-2
-returns-2 c = ?
+returns-2 c = rw (c .either .ensures, c .before .same-latitude .ensures) (next-follows (c .before .before .before .if1 .left) _)
 
 pub may-follow-spec : {M : Type 1} → statement M
 may-follow-spec =

@@ -1,11 +1,9 @@
+-- `next_latitude` meets its contract: letter 0 is that of no latitude, and `may_follow` says what the points say. Assumes nothing.
 use borrow.Author.Needs.{needs}
+use borrow.Author.Tests.{not-true, not-false}
+use Rattle.reader.proofs.OutlineLaws.{latitude-bad, latitude-late, latitude-yes}
 use Rattle.reader.proofs.outlining.next_latitude.Statement.{statement}
 use Rattle.reader.proofs.outlining.next_latitude.Tie as tie
-use Rattle.reader.proofs.outlining.next_latitude.Reads as reads
-use Rattle.reader.proofs.outlining.next_latitude.Lts as lts
-use Rattle.coordinates.proofs.latitude.Reads as latitude-reads
-use Rattle.reader.proofs.fixed.word.Reads as word-reads
-use Rattle.reader.proofs.outlining.may_follow.Reads as may-follow-reads
 
 -- src/outlining.rt:57:9
 word-requires : tie.Need-word-requires
@@ -29,7 +27,7 @@ latitude-requires c κs = search needs
 
 -- src/outlining.rt:62:9
 returns : tie.Need-returns
-returns c = ?
+returns c = latitude-bad (search needs) (c .before .before .before .before .word .ensures) (c .before .before .latitude .ensures) (c .if1 .taken)
 
 -- src/outlining.rt:68:9
 may-follow-requires : tie.Need-may-follow-requires
@@ -37,11 +35,15 @@ may-follow-requires c κs = search needs
 
 -- src/outlining.rt:69:9
 returns-2 : tie.Need-returns-2
-returns-2 c = ?
+returns-2 c =
+    latitude-late (search needs) (c .before .before .before .before .before .before .word .ensures) (c .before .before .before .before .latitude .ensures)
+    (c .before .may-follow .ensures) (search (not-true, needs))
 
 -- src/outlining.rt:53:1
 returns-3 : tie.Need-returns-3
-returns-3 c = ?
+returns-3 c =
+    latitude-yes (search needs) (c .before .before .before .before .before .before .word .ensures) (c .before .before .before .before .latitude .ensures)
+    (c .before .may-follow .ensures) (c .before .before .if1 .left) (search (not-false, needs))
 
 pub next-latitude-spec : {M : Type 1} → statement M
 next-latitude-spec =

@@ -1,11 +1,15 @@
+-- `next_longitude` meets its contract but for two holes: letter 0 is that of no longitude, and a point that closes wants four points, any other
+-- room. Open: that the refusal is not 0, which `room` needs where the word is refused, and which no `requires` says.
 use borrow.Author.Needs.{needs}
+use mathlib.Core.Logic.{⊎-elim}
+use mathlib.Core.Path.{_≡_, _∙_}
+use Prim.Native.Nat.{_+_}
+use lib.Dec.{ltb, leb}
+use borrow.Author.Tests.{not-true, not-false}
+use Rattle.lists.specs.Choice.{pick}
+use Rattle.reader.proofs.OutlineLaws.{longitude-bad, longitude-unfit, longitude-yes}
 use Rattle.reader.proofs.outlining.next_longitude.Statement.{statement}
 use Rattle.reader.proofs.outlining.next_longitude.Tie as tie
-use Rattle.reader.proofs.outlining.next_longitude.Reads as reads
-use Rattle.reader.proofs.outlining.next_longitude.Lts as lts
-use Rattle.coordinates.proofs.longitude.Reads as longitude-reads
-use Rattle.reader.proofs.fixed.word.Reads as word-reads
-use Rattle.reader.proofs.outlining.closes.Reads as closes-reads
 
 -- src/outlining.rt:94:9
 word-requires : tie.Need-word-requires
@@ -39,17 +43,28 @@ add-fits c = search needs
 add-fits-2 : tie.Need-add-fits-2
 add-fits-2 c = search needs
 
+-- the one test or the other
+fits-is : (c : tie.Joined1) → c .if1 .fits
+    ≡ pick (c .before .closes .result) (leb 4 (c .before .before .before .before .before .before .args .count + 1)) (ltb (c .before .before .before .before .before .before .args .count + 1) 7)
+fits-is c = ⊎-elim (λ w. w .1 ∙ rw (w .0 .taken)) (λ w. w .1 ∙ rw (w .0 .left)) (c .if1 .came)
+
 -- src/outlining.rt:109:9
 returns : tie.Need-returns
-returns c = ?
+returns c =
+    longitude-bad (search needs) (c .before .before .before .before .before .before .word .ensures) (c .before .before .before .before .longitude .ensures)
+    (c .before .before .before .closes .ensures) (fits-is (c .before .before)) ? (c .if2 .taken)
 
 -- src/outlining.rt:117:9
 returns-2 : tie.Need-returns-2
-returns-2 c = ?
+returns-2 c =
+    longitude-unfit (search needs) (c .before .before .before .before .before .before .before .word .ensures) (c .before .before .before .before .before .longitude .ensures)
+    (c .before .before .before .before .closes .ensures) (fits-is (c .before .before .before)) ? (search (not-true, needs))
 
 -- src/outlining.rt:83:1
 returns-3 : tie.Need-returns-3
-returns-3 c = ?
+returns-3 c =
+    longitude-yes (search needs) (c .before .before .before .before .before .before .before .word .ensures) (c .before .before .before .before .before .longitude .ensures)
+    (c .before .before .before .before .closes .ensures) (fits-is (c .before .before .before)) (c .before .if2 .left) (search (not-false, needs))
 
 pub next-longitude-spec : {M : Type 1} → statement M
 next-longitude-spec =

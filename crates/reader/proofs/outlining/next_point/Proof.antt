@@ -1,11 +1,17 @@
+-- `next_point` meets its contract: the latitude, the longitude and, where the outline is open, the `-`, one after another. Assumes nothing.
 use borrow.Author.Needs.{needs}
+use mathlib.Core.Bool.{false}
+use mathlib.Core.List.{[], _∷_, _++_}
+use mathlib.Core.Path.{refl}
+use Rattle.lists.proofs.Choice.{clash}
+use Rattle.grammar.specs.Placing.{placeStep}
+use Rattle.grammar.specs.States.Placing.{atLatitude, atDash}
+use Rattle.reader.proofs.Chains.{on, off}
+use Rattle.reader.proofs.FixedWords.{fixed-dash}
+use Rattle.reader.proofs.OutlineLaws.{latitude-on, point-closing, point-going}
+use Rattle.reader.proofs.Sides.{fixed-on}
 use Rattle.reader.proofs.outlining.next_point.Statement.{statement}
 use Rattle.reader.proofs.outlining.next_point.Tie as tie
-use Rattle.reader.proofs.outlining.next_point.Reads as reads
-use Rattle.reader.proofs.outlining.next_point.Lts as lts
-use Rattle.reader.proofs.fixed.fixed_at.Reads as fixed-at-reads
-use Rattle.reader.proofs.outlining.next_latitude.Reads as next-latitude-reads
-use Rattle.reader.proofs.outlining.next_longitude.Reads as next-longitude-reads
 
 -- src/outlining.rt:137:9
 next-latitude-requires : tie.Need-next-latitude-requires
@@ -13,7 +19,13 @@ next-latitude-requires c κs = search needs
 
 -- src/outlining.rt:140:9
 returns : tie.Need-returns
-returns c = ?
+returns c =
+    record {
+      closing = λ y. clash false y refl;
+      going = λ y site ps n k. off (latitude-on (c .before .before .before .next-latitude .ensures) site ps n k) (c .if1 .taken);
+      room = λ z y. absurd (c .if1 .taken z);
+      within = search needs;
+    }
 
 -- src/outlining.rt:147:9
 next-longitude-requires : tie.Need-next-longitude-requires
@@ -21,11 +33,28 @@ next-longitude-requires c κs = search needs
 
 -- src/outlining.rt:149:9
 returns-2 : tie.Need-returns-2
-returns-2 c = ?
+returns-2 c =
+    let north = c .before .before .before .before .before .before .next-latitude .ensures in
+    let east = c .before .before .next-longitude .ensures in
+    let zero = c .before .before .before .if1 .left in
+    record {
+      closing = λ y site ps n k. point-closing north site ps n k zero east y;
+      going = λ y site ps n k. off (point-going north site ps n k zero east y) (c .if2 .taken);
+      room = λ z y. absurd (c .if2 .taken z);
+      within = search needs;
+    }
 
 -- src/outlining.rt:152:9
 returns-3 : tie.Need-returns-3
-returns-3 c = ?
+returns-3 c =
+    record {
+      closing = λ y site ps n k.
+          point-closing (c .before .before .before .before .before .before .before .next-latitude .ensures) site ps n k (c .before .before .before .before .if1 .left)
+          (c .before .before .before .next-longitude .ensures) y;
+      going = λ y. clash _ (c .if3 .taken) y;
+      room = λ z y. clash _ (c .if3 .taken) y;
+      within = search needs;
+    }
 
 -- src/outlining.rt:154:9
 fixed-at-requires : tie.Need-fixed-at-requires
@@ -33,7 +62,21 @@ fixed-at-requires c κs = search needs
 
 -- src/outlining.rt:133:1
 returns-4 : tie.Need-returns-4
-returns-4 c = ?
+unfolding placeStep
+returns-4 c =
+    let east = c .before .before .before .before .before .next-longitude in
+    let zero = c .before .before .before .if2 .left in
+    let isOpen = c .before .before .if3 .left in
+    record {
+      closing = λ y. clash false y refl;
+      going = λ y site ps n k.
+          let more = ps ++ (east .result .point ∷ []) in
+          on (point-going (c .before .before .before .before .before .before .before .before .before .next-latitude .ensures) site ps n k
+          (c .before .before .before .before .before .before .if1 .left) (east .ensures) isOpen) zero
+          (fixed-on (c .before .fixed-at .ensures) fixed-dash site (atDash more) n (atLatitude more) refl);
+      room = λ z y. east .ensures .room zero isOpen;
+      within = search needs;
+    }
 
 pub next-point-spec : {M : Type 1} → statement M
 next-point-spec =
