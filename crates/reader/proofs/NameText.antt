@@ -168,7 +168,6 @@ module _ {m : Bool} {limit : ℕ} {t : List ℕ} {at start end : ℕ} (k : WordA
     tells = λ x is. sym (e x is);
     placed = refl;
     named = λ x is y. clash false y refl;
-    long = λ y. clash false y refl;
     within = h;
     moves = λ y. clash false y refl;
   }
@@ -206,13 +205,12 @@ module _ {m : Bool} {limit : ℕ} {t : List ℕ} {at start end : ℕ} (k : WordA
           within = k .within;
         }
 
-    pub next-in : (before name : Name) → r ≡ true → before .count + (1 + (end - start)) ≤ limit → GrownSays before (part start end t) name → name .count ≤ limit
+    pub next-in : (before name : Name) → r ≡ true → before .count + (1 + (end - start)) ≤ limit → GrownSays before (part start end t) name
         → NameGoesOn m limit t at before true end name
-    next-in before name f l g long = record {
+    next-in before name f l g = record {
       tells = λ x is. sym (both-true (tested k m e f) (le-leb (length (grown x (wordFrom t at))) limit (omega (arith, word-length k, grown-length before x (wordFrom t at) is))));
       placed = k .ends;
       named = λ x is y. g .says x is ∙ ap (λ (w : List ℕ). nameOf (grown x w)) (part-is k);
-      long = λ y. long;
       within = k .within;
       moves = λ y. past-word k (some-in-name m (wordFrom t at) (tested k m e f));
     }

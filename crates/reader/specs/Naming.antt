@@ -32,7 +32,6 @@ pub record NameGoesOn (mountain : Bool) (limit : ℕ) (t : List ℕ) (at : ℕ) 
   pub tells : (x : List ℕ) → before ≡ nameOf x → found ≡ goneOn mountain limit x (wordFrom t at)
   pub placed : place ≡ pick found (spanOf t at .end) at
   pub named : (x : List ℕ) → before ≡ nameOf x → found ≡ true → name ≡ nameOf (grown x (wordFrom t at))
-  pub long : found ≡ true → name .count ≤ limit
   pub within : place ≤ length t
   pub moves : found ≡ true → at < place
 

@@ -1,6 +1,6 @@
 // Location: a bound, an outline or the entire area. It is read in a report and in a forecast, and refused by the number of either.
 ghost use mathlib.Core.Path.{_≡_};
-ghost use Prim.Native.Nat.{_≤_};
+ghost use Prim.Native.Nat.{_≤_, _<_};
 ghost use lib.ListN.{length};
 ghost use Rattle.grammar.specs.Records.{bounded as boundedBy};
 ghost use Rattle.reader.specs.Locations.{SideSays, BoundSays, SecondSays, AfterNorthSays, NorthSays, EntireSays, LocationSays};
@@ -162,7 +162,7 @@ fn read_entire(text: &[u8], at: usize, closing: u8, refusal: u8) -> LocationRead
 
 // A bound by its first word, or the entire area, or an outline.
 pub(crate) fn read_location(text: &[u8], at: usize, closing: u8, refusal: u8) -> LocationRead
-    requires { ⌜ at ≤ length (now text) ⌝ }
+    requires { ⌜ (at ≤ length (now text)) × (0 < refusal) ⌝ }
     ensures { λ r. ⌜ LocationSays closing refusal (now (text .entry)) at (r .number) (r .place) (r .extent) ⌝ }
 {
     let k = code_at(text, at);

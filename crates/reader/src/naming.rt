@@ -1,7 +1,7 @@
 // A name of one or more words, kept with single spaces. It goes on as long as the next word belongs to it and there is room.
 ghost use mathlib.Core.Path.{_≡_};
 ghost use mathlib.Core.List.{_++_};
-ghost use Prim.Native.Nat.{_+_, _≤_};
+ghost use Prim.Native.Nat.{_+_, _<_, _≤_};
 ghost use lib.ListN.{length, take, drop};
 ghost use Rattle.reader.specs.Naming.{GrownSays, NameBegins, NameGoesOn, NameSays};
 use crate::empties::no_name;
@@ -123,7 +123,7 @@ pub(crate) fn read_name(
     limit: usize,
     refusal: u8,
 ) -> NameRead
-    requires { ⌜ (at ≤ length (now text)) × (limit ≤ 50) ⌝ }
+    requires { ⌜ (at ≤ length (now text)) × ((limit ≤ 50) × (0 < refusal)) ⌝ }
     ensures { λ r. ⌜ NameSays mountain limit refusal (now (text .entry)) at (r .number) (r .place) (r .name) ⌝ }
 {
     let first = first_word(text, at, mountain, limit);

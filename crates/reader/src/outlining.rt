@@ -88,7 +88,7 @@ fn next_longitude(
     north: Coordinate,
     refusal: u8,
 ) -> PointRead
-    requires { ⌜ (at ≤ length (now text)) × (count < 7) ⌝ }
+    requires { ⌜ (at ≤ length (now text)) × (count < 7) × (0 < refusal) ⌝ }
     ensures { λ r. ⌜ LongitudeSays first count north refusal (now (text .entry)) at (r .number) (r .place) (r .point) (r .closed) ⌝ }
 {
     let next = word(text, at);
@@ -131,7 +131,7 @@ fn next_longitude(
 
 // One more point, and the `-` after it where the outline is not closed.
 fn next_point(text: &[u8], at: usize, first: Point, count: usize, refusal: u8) -> PointRead
-    requires { ⌜ (at ≤ length (now text)) × (count < 7) ⌝ }
+    requires { ⌜ (at ≤ length (now text)) × (count < 7) × (0 < refusal) ⌝ }
     ensures { λ r. ⌜ PointSays first count refusal (now (text .entry)) at (r .number) (r .place) (r .point) (r .closed) ⌝ }
 {
     let north = next_latitude(text, at, first, count, refusal);
@@ -163,7 +163,7 @@ fn next_point(text: &[u8], at: usize, first: Point, count: usize, refusal: u8) -
 
 // The points after WI.
 pub(crate) fn read_outline(text: &[u8], at: usize, refusal: u8) -> LocationRead
-    requires { ⌜ at ≤ length (now text) ⌝ }
+    requires { ⌜ (at ≤ length (now text)) × (0 < refusal) ⌝ }
     ensures { λ r. ⌜ OutlineSays refusal (now (text .entry)) at (r .number) (r .place) (r .extent) ⌝ }
 {
     let none = no_point();

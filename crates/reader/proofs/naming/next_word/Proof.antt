@@ -65,7 +65,7 @@ grown-name-requires c κs = search needs
 returns-3 : tie.Need-returns-3
 returns-3 c =
     next-in (c .before .before .before .before .before .before .before .word .ensures) (c .before .before .before .in-name .ensures) _ _ (search (not-false, needs)) (search needs)
-    (c .grown-name .ensures) ?
+    (c .grown-name .ensures)
 
 pub next-word-spec : {M : Type 1} → statement M
 next-word-spec =

@@ -20,7 +20,7 @@ first-word-requires c κs = search needs
 
 -- src/naming.rt:133:9
 returns : tie.Need-returns Inv-loop μ-loop
-returns c = name-refused (search needs) (c .before .before .before .first-word .ensures) (search (not-true, needs)) ?
+returns c = name-refused (search needs) (c .before .before .before .first-word .ensures) (search (not-true, needs)) (search needs)
 
 -- src/naming.rt:139:5
 loop-holds : tie.Need-loop-holds Inv-loop μ-loop

@@ -1,5 +1,4 @@
--- `next_longitude` meets its contract but for two holes: letter 0 is that of no longitude, and a point that closes wants four points, any other
--- room. Open: that the refusal is not 0, which `room` needs where the word is refused, and which no `requires` says.
+-- `next_longitude` meets its contract: letter 0 is that of no longitude, and a point that closes wants four points, any other room. Assumes nothing.
 use borrow.Author.Needs.{needs}
 use mathlib.Core.Logic.{⊎-elim}
 use mathlib.Core.Path.{_≡_, _∙_}
@@ -52,13 +51,13 @@ fits-is c = ⊎-elim (λ w. w .1 ∙ rw (w .0 .taken)) (λ w. w .1 ∙ rw (w .0 
 returns : tie.Need-returns
 returns c =
     longitude-bad (search needs) (c .before .before .before .before .before .before .word .ensures) (c .before .before .before .before .longitude .ensures)
-    (c .before .before .before .closes .ensures) (fits-is (c .before .before)) ? (c .if2 .taken)
+    (c .before .before .before .closes .ensures) (fits-is (c .before .before)) (λ z. search needs) (c .if2 .taken)
 
 -- src/outlining.rt:117:9
 returns-2 : tie.Need-returns-2
 returns-2 c =
     longitude-unfit (search needs) (c .before .before .before .before .before .before .before .word .ensures) (c .before .before .before .before .before .longitude .ensures)
-    (c .before .before .before .before .closes .ensures) (fits-is (c .before .before .before)) ? (search (not-true, needs))
+    (c .before .before .before .before .closes .ensures) (fits-is (c .before .before .before)) (λ z. search needs) (search (not-true, needs))
 
 -- src/outlining.rt:83:1
 returns-3 : tie.Need-returns-3
