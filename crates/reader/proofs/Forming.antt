@@ -102,52 +102,11 @@ module _ {t : List ℕ} {at start end code : ℕ} (h : at ≤ length t) (k : Cod
   unfolding step
   ash-erupts e o = rw (is-no h k fixed-cld e, eruption-told (wordFrom t at))
 
--- A word after `VA ERUPTION` that is not `MT`. No other state takes just what is left to take there, which is what `Perhaps` asks for: so the
--- word is known again by where the machine refuses it in a state that takes the `=` only.
+-- A word after `VA ERUPTION` that is not `MT`: it is `PSN`, or refused.
 
-word-by-start : (t : List ℕ) (a b : ℕ) → spanOf t a .start ≡ spanOf t b .start → wordFrom t a ≡ wordFrom t b
-unfolding spanOf
-word-by-start t a b e = ap (λ (s : ℕ). part s (indexFrom blank s t) t) e
-
-position-no : (w k : List ℕ) → same (bytes "PSN") k ≡ false → same w (bytes "PSN") ≡ true → same w k ≡ false
-position-no w k n y = rw (same-is w (bytes "PSN") y) n
-
--- a name with no room for another word
-full : List ℕ
-full = replicate mountainLimit 0
-
-full-stops : (w : List ℕ) → goneOn true mountainLimit full w ≡ false
-unfolding full
-full-stops w = both-false-right (inName true w) (lt-leb (length (grown full w)) mountainLimit (omega arith))
-
-module _ {t : List ℕ} {at place : ℕ} {found : Bool} (h : at ≤ length t) (e : found ≡ false) (p : Perhaps 0x014d54 t at found place) where
-  word-stays : (r : Record) → same (wordFrom t at) [] ≡ false → wordFrom t place ≡ wordFrom t at
-  unfolding step same
-  word-stays r n =
-      let stays : runAt (atEnd r) t at ≡ runAt (atEnd r) t place = p .without e _ fixed-mt (atEnd r) (atEnd r) (λ _. refl) refl .says in
-      let here : runAt (atEnd r) t at ≡ refused 12 (spanOf t at .start) = dead-at (atEnd r) t at h (rw n) in
-      by (same (wordFrom t place) [])
-      (λ y.
-      let there : runAt (atEnd r) t place ≡ accepted r = done-at (atEnd r) r t place (p .within) (ap length (same-is (wordFrom t place) [] y)) refl in
-      let never : _≡_ {A = ℕ} 0 1 = cc in
-      absurd (omega arith))
-      (λ m.
-      let there : runAt (atEnd r) t place ≡ refused 12 (spanOf t place .start) = dead-at (atEnd r) t place (p .within) (rw m) in
-      word-by-start t place at (cc))
-
-  position-stays : (r : Record) → same (wordFrom t place) (bytes "PSN") ≡ false → same (wordFrom t at) (bytes "PSN") ≡ false
-  unfolding same
-  position-stays r n =
-      by (same (wordFrom t at) (bytes "PSN"))
-      (λ y. clash (same (wordFrom t place) (bytes "PSN")) (ap (λ (w : List ℕ). same w (bytes "PSN")) (word-stays r (position-no (wordFrom t at) [] refl y)) ∙ y) n)
-      (λ m. m)
-
-  -- then it is `PSN`, or refused
-  pub no-mountain : {number after : ℕ} (o : ToArea) → Fixed 0x0150534e 7 t place number after → Goes (atEruption o) t at number after (atPosition o noName)
-  unfolding step same
-  no-mountain o q =
-      by (same (wordFrom t place) (bytes "PSN"))
-      (λ y. on (p .without e _ fixed-mt (atEruption o) (atEruption o) (λ _. refl) refl) refl
-      (q .says _ fixed-psn (atEruption o) (atPosition o noName) (rw (position-no (wordFrom t place) (bytes "MT") refl y)) refl))
-      (λ n. on (p .without e _ fixed-mt (atEruption o) (atMoreMountain o full) (λ m. rw (m, position-stays (testOf o 1) n, full-stops (wordFrom t at))) refl) refl
-      (q .says _ fixed-psn (atMoreMountain o full) (atPosition o noName) (rw (n, full-stops (wordFrom t place))) refl))
+pub no-mountain : {t : List ℕ} {at place number after : ℕ} {found : Bool} → found ≡ false → Perhaps 0x014d54 t at found place → Fixed 0x0150534e 7 t place number after
+    → (o : ToArea) → Goes (atEruption o) t at number after (atPosition o noName)
+unfolding step
+no-mountain e p q o =
+    on (p .without e _ fixed-mt (atEruption o) (atEruption o) (λ _. refl) refl) refl
+    (q .says _ fixed-psn (atEruption o) (atPosition o noName) (rw (p .other e _ fixed-mt)) refl)

@@ -124,6 +124,7 @@ module _ {t : List ℕ} {at start end code : ℕ} (h : at ≤ length t) (c : Cod
   perhaps-yes m e = record {
     with = λ y k f s there j. goes-fixed f e s there (j (is-yes f e));
     without = λ n k f s otherwise j q. clash true refl n;
+    other = λ n k f. clash true refl n;
     within = c .within;
   }
 
@@ -131,6 +132,7 @@ module _ {t : List ℕ} {at start end code : ℕ} (h : at ≤ length t) (c : Cod
   perhaps-no m e = record {
     with = λ y k f s there j. clash false y refl;
     without = λ n k f s otherwise j q. same-word h (c .word) s otherwise q (j (is-no f e));
+    other = λ n k f. is-no f e;
     within = h;
   }
 

@@ -33,6 +33,7 @@ use Rattle.grammar.specs.States.State.{atPlace}
 use Rattle.grammar.specs.Steps.{after}
 use Rattle.reader.specs.Going.{Goes, wordFrom, WordAt}
 use Rattle.reader.specs.Outlines.{Points, FollowsSays, ClosesSays, LatitudeSays, LongitudeSays, PointSays, OutlineSays}
+use Rattle.reader.proofs.Tells.{latitude-told, longitude-told}
 use Rattle.reader.proofs.Chains.{off}
 use Rattle.reader.proofs.Chains as chains
 use Rattle.reader.proofs.Going.{some-word}
@@ -71,22 +72,6 @@ module _ {first : Point} {count : ℕ} where
         go [] h = absurd (some (sym (h .counted)))
         go (x ∷ xs) h = rw (led x xs h)
 
--- a word is a coordinate exactly where its letter is not 0, which is neither letter of an axis; and the `=` is none
-module _ (a : Axis) (r : Reads (coordinateOf a) (spellCoordinate a) (goodCoordinate a) noCoordinate)
-    (other : either (eqb 0 (a .plus)) (eqb 0 (a .minus)) ≡ false) where
-  letter-some : (c : Coordinate) → goodCoordinate a c ≡ true → c .letter ≡ 0 → ⊥
-  unfolding goodCoordinate
-  letter-some c g z = clash (goodCoordinate a c) g (rw (z, other))
-
-  letter-no : (w : List ℕ) (c : Coordinate) → c ≡ coordinateOf a w → c .letter ≡ 0 → goodCoordinate a c ≡ false
-  letter-no = field-no r (λ (c : Coordinate). c .letter) letter-some
-
-  letter-yes : (w : List ℕ) (c : Coordinate) → c ≡ coordinateOf a w → (c .letter ≡ 0 → ⊥) → goodCoordinate a c ≡ true
-  letter-yes = field-yes r (λ (c : Coordinate). c .letter) letter-some
-
-  letter-end : goodCoordinate a (coordinateOf a []) ≡ false
-  letter-end = rw (← (no-length a [] (λ e. absurd (omega arith)) (λ e. absurd (omega arith)))) (r .refuses)
-
 -- the latitude of one more point
 abbrev follows : List Point → Coordinate → Bool
 follows ps d = both (goodCoordinate northSouth d) (mayFollow ps d)
@@ -101,7 +86,7 @@ module _ {t : List ℕ} {at start end : ℕ} (h : at ≤ length t) (w : WordAt t
 
   -- no latitude
   pub latitude-bad : c .letter ≡ 0 → LatitudeSays first count refusal t at refusal start c
-  latitude-bad z = latitude-no (λ ps k. both-false-left _ (letter-no northSouth latitude-reads refl _ c e z))
+  latitude-bad z = latitude-no (λ ps k. both-false-left _ (latitude-told .bad _ c e z))
 
   -- not that of point 1, where there is no room for another point
   module _ {f : Bool} (may : FollowsSays first count c f) where
@@ -110,8 +95,8 @@ module _ {t : List ℕ} {at start end : ℕ} (h : at ≤ length t) (w : WordAt t
 
     pub latitude-yes : (c .letter ≡ 0 → ⊥) → f ≡ true → LatitudeSays first count refusal t at 0 end c
     latitude-yes z y = record {
-      says = λ ps k. required-yes h w (coordinateOf northSouth) (follows ps) refusal c e (both-false-left _ (letter-end northSouth latitude-reads refl))
-          (both-true (letter-yes northSouth latitude-reads refl _ c e z) (sym (may .says ps k) ∙ y));
+      says = λ ps k. required-yes h w (coordinateOf northSouth) (follows ps) refusal c e (both-false-left _ (latitude-told .end))
+          (both-true (latitude-told .fine _ c e z) (sym (may .says ps k) ∙ y));
       within = w .within;
     }
 
@@ -150,7 +135,7 @@ module _ {t : List ℕ} {at start end : ℕ} (h : at ≤ length t) (w : WordAt t
       refused site ps r k next = dead-word h w (atPlace site (atLongitude ps (p .latitude))) next refusal r (nowhere-step site _ _ (longitude-step _ ps k ∙ rw n))
 
   pub longitude-bad : {refusal : ℕ} → (refusal ≡ 0 → ⊥) → p .longitude .letter ≡ 0 → LongitudeSays first count (p .latitude) refusal t at refusal start p closed
-  longitude-bad some z = longitude-no some (both-false-left _ (letter-no eastWest longitude-reads refl _ (p .longitude) e z))
+  longitude-bad some z = longitude-no some (both-false-left _ (longitude-told .bad _ (p .longitude) e z))
 
   pub longitude-unfit : {refusal : ℕ} → (refusal ≡ 0 → ⊥) → fits ≡ false → LongitudeSays first count (p .latitude) refusal t at refusal start p closed
   longitude-unfit some n = longitude-no some (both-false-right (goodCoordinate eastWest (p .longitude)) n)
@@ -164,10 +149,10 @@ module _ {t : List ℕ} {at start end : ℕ} (h : at ≤ length t) (w : WordAt t
   }
     where
       good : goodCoordinate eastWest (p .longitude) ≡ true
-      good = letter-yes eastWest longitude-reads refl _ (p .longitude) e z
+      good = longitude-told .fine _ (p .longitude) e z
 
       some : 0 < length (wordFrom t at)
-      some = some-word (λ (x : List ℕ). goodCoordinate eastWest (coordinateOf eastWest x)) (wordFrom t at) (letter-end eastWest longitude-reads refl) (rw east-is good)
+      some = some-word (λ (x : List ℕ). goodCoordinate eastWest (coordinateOf eastWest x)) (wordFrom t at) (longitude-told .end) (rw east-is good)
 
 -- one more point: its latitude, and then its longitude
 module _ {first : Point} {count refusal : ℕ} {t : List ℕ} {at number place : ℕ} {north : Coordinate}

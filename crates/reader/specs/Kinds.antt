@@ -42,6 +42,7 @@ pub record Perhaps (code : ℕ) (t : List ℕ) (at : ℕ) (found : Bool) (place 
   pub without : found ≡ false → (k : List ℕ) → FixedWord k code → (s otherwise : State)
       → (same (wordFrom t at) k ≡ false → step s (wordFrom t at) ≡ step otherwise (wordFrom t at)) → numberOf s ≡ numberOf otherwise
       → Goes s t at 0 place otherwise
+  pub other : found ≡ false → (k : List ℕ) → FixedWord k code → same (wordFrom t place) k ≡ false
   pub within : place ≤ length t
 
 -- the code of the next word, for a choice among fixed words

@@ -13,20 +13,16 @@ use Rattle.reader.proofs.NameText.{areaClosed, area-takes, name-closed}
 use Rattle.reader.proofs.areas.read_area.Statement.{statement}
 use Rattle.reader.proofs.areas.read_area.Tie as tie
 
--- src/areas.rt:23:9
 letters-at-requires : tie.Need-letters-at-requires
 letters-at-requires c κs = search needs
 
--- src/areas.rt:25:13
 no-name-requires : tie.Need-no-name-requires
 no-name-requires c κs = search needs
 
--- src/areas.rt:26:9
 returns : tie.Need-returns
 unfolding step
 returns c = record { says = λ h l. off (c .before .before .before .letters-at .ensures .says (atIndicator h l) (atName h l) refl refl) (c .before .if1 .taken); within = search needs }
 
--- src/areas.rt:36:9
 read-name-requires : tie.Need-read-name-requires
 read-name-requires c κs = search needs
 
@@ -39,15 +35,12 @@ up-to-name c h l =
     on (i .ensures .says (atIndicator h l) (atName h l) refl refl) (c .before .if1 .left)
     (c .read-name .ensures .says (atName h l (i .result .letters)) (atMoreName h l (i .result .letters)) _ (area-takes h l (i .result .letters)))
 
--- src/areas.rt:39:9
 returns-2 : tie.Need-returns-2
 returns-2 c = record { says = λ h l. off (up-to-name (c .before .before .before) h l) (c .if2 .taken); within = search needs }
 
--- src/areas.rt:49:9
 closing-at-requires : tie.Need-closing-at-requires
 closing-at-requires c κs = search needs
 
--- src/areas.rt:19:1
 returns-3 : tie.Need-returns-3
 unfolding step
 returns-3 c =

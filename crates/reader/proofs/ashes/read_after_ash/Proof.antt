@@ -10,15 +10,12 @@ use Rattle.reader.proofs.KindLaws.{is-yes, goes-fixed}
 use Rattle.reader.proofs.ashes.read_after_ash.Statement.{statement}
 use Rattle.reader.proofs.ashes.read_after_ash.Tie as tie
 
--- src/ashes.rt:149:9
 code-at-requires : tie.Need-code-at-requires
 code-at-requires c κs = search needs
 
--- src/ashes.rt:150:9
 no-volcano-requires : tie.Need-no-volcano-requires
 no-volcano-requires c κs = search needs
 
--- src/ashes.rt:152:9
 returns : tie.Need-returns
 unfolding step
 returns c =
@@ -28,21 +25,17 @@ returns c =
       within = search needs;
     }
 
--- src/ashes.rt:159:9
 long-at-requires : tie.Need-long-at-requires
 long-at-requires c κs = search needs
 
--- src/ashes.rt:161:9
 returns-2 : tie.Need-returns-2
 returns-2 c =
     let other = ash-erupts (search needs) (c .before .before .before .before .before .before .code-at .ensures) (c .before .before .before .if1 .left) in
     record { says = λ o. off (c .before .before .long-at .ensures .says (atAsh o) (λ _. atEruption o) (other o) refl) (c .if2 .taken); within = search needs }
 
--- src/ashes.rt:168:9
 read-eruption-requires : tie.Need-read-eruption-requires
 read-eruption-requires c κs = search needs
 
--- src/ashes.rt:145:1
 returns-3 : tie.Need-returns-3
 returns-3 c =
     let other = ash-erupts (search needs) (c .before .before .before .before .before .before .before .before .code-at .ensures) (c .before .before .before .before .before .if1 .left) in

@@ -7,24 +7,19 @@ use Rattle.reader.proofs.FixedWords.{fixed-va}
 use Rattle.reader.proofs.ashes.read_ash.Statement.{statement}
 use Rattle.reader.proofs.ashes.read_ash.Tie as tie
 
--- src/ashes.rt:182:9
 fixed-at-requires : tie.Need-fixed-at-requires
 fixed-at-requires c κs = search needs
 
--- src/ashes.rt:184:13
 no-volcano-requires : tie.Need-no-volcano-requires
 no-volcano-requires c κs = search needs
 
--- src/ashes.rt:185:9
 returns : tie.Need-returns
 returns c =
     record { says = λ o j. off (c .before .before .before .fixed-at .ensures .says _ fixed-va (atForm o) (atAsh o) j refl) (c .before .if1 .taken); within = search needs }
 
--- src/ashes.rt:192:5
 read-after-ash-requires : tie.Need-read-after-ash-requires
 read-after-ash-requires c κs = search needs
 
--- src/ashes.rt:178:1
 returns-2 : tie.Need-returns-2
 returns-2 c =
     record {

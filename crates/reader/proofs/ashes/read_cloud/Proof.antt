@@ -8,20 +8,16 @@ use Rattle.reader.proofs.FixedWords.{fixed-va, fixed-cld}
 use Rattle.reader.proofs.ashes.read_cloud.Statement.{statement}
 use Rattle.reader.proofs.ashes.read_cloud.Tie as tie
 
--- src/ashes.rt:102:9
 fixed-at-requires : tie.Need-fixed-at-requires
 fixed-at-requires c κs = search needs
 
--- src/ashes.rt:104:9
 returns : tie.Need-returns
 unfolding step
 returns c = record { says = λ o v. off (c .before .before .fixed-at .ensures .says _ fixed-va (atVolcanoAsh o v) (atVolcanoCloud o v) refl refl) (c .if1 .taken); within = search needs }
 
--- src/ashes.rt:106:5
 fixed-at-requires-2 : tie.Need-fixed-at-requires-2
 fixed-at-requires-2 c κs = search needs
 
--- src/ashes.rt:98:1
 returns-2 : tie.Need-returns-2
 unfolding step
 returns-2 c =

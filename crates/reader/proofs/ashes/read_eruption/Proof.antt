@@ -4,23 +4,18 @@ use Rattle.reader.proofs.Chains.{on, off}
 use Rattle.reader.proofs.ashes.read_eruption.Statement.{statement}
 use Rattle.reader.proofs.ashes.read_eruption.Tie as tie
 
--- src/ashes.rt:114:9
 read-mountain-requires : tie.Need-read-mountain-requires
 read-mountain-requires c κs = search needs
 
--- src/ashes.rt:117:13
 no-point-requires : tie.Need-no-point-requires
 no-point-requires c κs = search needs
 
--- src/ashes.rt:118:9
 returns : tie.Need-returns
 returns c = record { says = λ o. off (c .before .before .before .before .read-mountain .ensures .says o) (c .before .if1 .taken); within = search needs }
 
--- src/ashes.rt:127:9
 read-position-requires : tie.Need-read-position-requires
 read-position-requires c κs = search needs
 
--- src/ashes.rt:130:9
 returns-2 : tie.Need-returns-2
 returns-2 c =
     let mount = c .before .before .before .before .before .before .before .read-mountain in
@@ -29,11 +24,9 @@ returns-2 c =
       within = search needs;
     }
 
--- src/ashes.rt:136:9
 read-cloud-requires : tie.Need-read-cloud-requires
 read-cloud-requires c κs = search needs
 
--- src/ashes.rt:110:1
 returns-3 : tie.Need-returns-3
 returns-3 c =
     let mount = c .before .before .before .before .before .before .before .before .read-mountain in

@@ -14,24 +14,19 @@ use Rattle.reader.proofs.NameText.{mountainClosed, mountain-takes, name
 use Rattle.reader.proofs.ashes.read_mountain.Statement.{statement}
 use Rattle.reader.proofs.ashes.read_mountain.Tie as tie
 
--- src/ashes.rt:46:9
 perhaps-at-requires : tie.Need-perhaps-at-requires
 perhaps-at-requires c κs = search needs
 
--- src/ashes.rt:48:13
 fixed-at-requires : tie.Need-fixed-at-requires
 fixed-at-requires c κs = search needs
 
--- src/ashes.rt:49:13
 no-name-requires : tie.Need-no-name-requires
 no-name-requires c κs = search needs
 
--- src/ashes.rt:50:9
 returns : tie.Need-returns
 returns c =
-    record { says = λ o. rw (c .no-name .ensures) (no-mountain (search needs) (search (not-true, needs)) (c .before .before .before .before .perhaps-at .ensures) o (c .before .fixed-at .ensures)); within = search needs }
+    record { says = λ o. rw (c .no-name .ensures) (no-mountain (search (not-true, needs)) (c .before .before .before .before .perhaps-at .ensures) (c .before .fixed-at .ensures) o); within = search needs }
 
--- src/ashes.rt:56:9
 read-name-requires : tie.Need-read-name-requires
 read-name-requires c κs = search needs
 
@@ -42,15 +37,12 @@ up-to-name c o =
     on (c .before .before .before .perhaps-at .ensures .with (search (not-false, needs)) _ fixed-mt (atEruption o) (atMountain o) (λ y. rw y)) refl
     (c .read-name .ensures .says (atMountain o) (atMoreMountain o) _ (mountain-takes o))
 
--- src/ashes.rt:58:9
 returns-2 : tie.Need-returns-2
 returns-2 c = record { says = λ o. off (up-to-name (c .before .before) o) (c .if2 .taken); within = search needs }
 
--- src/ashes.rt:61:9
 fixed-at-requires-2 : tie.Need-fixed-at-requires-2
 fixed-at-requires-2 c κs = search needs
 
--- src/ashes.rt:42:1
 returns-3 : tie.Need-returns-3
 returns-3 c =
     let read = c .before .before .before .before in

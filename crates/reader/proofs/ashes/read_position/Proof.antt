@@ -7,20 +7,16 @@ use Rattle.reader.proofs.Chains.{on, off}
 use Rattle.reader.proofs.ashes.read_position.Statement.{statement}
 use Rattle.reader.proofs.ashes.read_position.Tie as tie
 
--- src/ashes.rt:73:9
 latitude-at-requires : tie.Need-latitude-at-requires
 latitude-at-requires c κs = search needs
 
--- src/ashes.rt:76:9
 returns : tie.Need-returns
 unfolding step
 returns c = record { says = λ o n. off (c .before .before .before .latitude-at .ensures .says (atPosition o n) (atPositionLongitude o n) refl refl) (c .if1 .taken); within = search needs }
 
--- src/ashes.rt:85:9
 longitude-at-requires : tie.Need-longitude-at-requires
 longitude-at-requires c κs = search needs
 
--- src/ashes.rt:69:1
 returns-2 : tie.Need-returns-2
 unfolding step
 returns-2 c =

@@ -4,19 +4,15 @@ use Rattle.grammar.specs.States.State.{atCancelSigmet}
 use Rattle.reader.proofs.bodies.cancellation_body.Statement.{statement}
 use Rattle.reader.proofs.bodies.cancellation_body.Tie as tie
 
--- src/bodies.rt:63:9
 read-cancellation-requires : tie.Need-read-cancellation-requires
 read-cancellation-requires c κs = search needs
 
--- src/bodies.rt:66:9
 concluding-requires : tie.Need-concluding-requires
 concluding-requires c κs = search needs
 
--- src/bodies.rt:67:9
 no-report-requires : tie.Need-no-report-requires
 no-report-requires c κs = search needs
 
--- src/bodies.rt:59:1
 returns : tie.Need-returns
 returns c =
     record { says = λ o l. rw (c .no-report .ensures) (c .before .concluding .ensures .says (atCancelSigmet o) _ _ (c .before .before .before .before .read-cancellation .ensures .says o l)) }

@@ -4,19 +4,15 @@ use Rattle.grammar.specs.States.State.{atTestText}
 use Rattle.reader.proofs.bodies.long_test_body.Statement.{statement}
 use Rattle.reader.proofs.bodies.long_test_body.Tie as tie
 
--- src/bodies.rt:47:9
 read-long-test-requires : tie.Need-read-long-test-requires
 read-long-test-requires c κs = search needs
 
--- src/bodies.rt:48:9
 concluding-requires : tie.Need-concluding-requires
 concluding-requires c κs = search needs
 
--- src/bodies.rt:49:9
 no-report-requires : tie.Need-no-report-requires
 no-report-requires c κs = search needs
 
--- src/bodies.rt:43:1
 returns : tie.Need-returns
 returns c = record { says = λ o. rw (c .no-report .ensures) (c .before .concluding .ensures .says (atTestText o 3 1) _ _ (c .before .before .read-long-test .ensures .says o)) }
 

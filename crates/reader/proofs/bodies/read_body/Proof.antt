@@ -11,15 +11,12 @@ use Rattle.reader.proofs.KindLaws.{is-yes, is-no, goes-fixed}
 use Rattle.reader.proofs.bodies.read_body.Statement.{statement}
 use Rattle.reader.proofs.bodies.read_body.Tie as tie
 
--- src/bodies.rt:80:9
 code-at-requires : tie.Need-code-at-requires
 code-at-requires c κs = search needs
 
--- src/bodies.rt:82:9
 test-body-requires : tie.Need-test-body-requires
 test-body-requires c κs = search needs
 
--- src/bodies.rt:82:9
 returns : tie.Need-returns
 unfolding step stepForm
 returns c =
@@ -29,11 +26,9 @@ returns c =
           (c .test-body .ensures .says o);
     }
 
--- src/bodies.rt:85:9
 long-test-body-requires : tie.Need-long-test-body-requires
 long-test-body-requires c κs = search needs
 
--- src/bodies.rt:85:9
 returns-2 : tie.Need-returns-2
 unfolding step stepForm
 returns-2 c =
@@ -46,11 +41,9 @@ returns-2 c =
           (c .long-test-body .ensures .says o);
     }
 
--- src/bodies.rt:88:9
 cancellation-body-requires : tie.Need-cancellation-body-requires
 cancellation-body-requires c κs = search needs
 
--- src/bodies.rt:88:9
 returns-3 : tie.Need-returns-3
 unfolding step stepForm
 returns-3 c =
@@ -67,11 +60,9 @@ returns-3 c =
           (c .cancellation-body .ensures .says o l);
     }
 
--- src/bodies.rt:96:9
 read-report-requires : tie.Need-read-report-requires
 read-report-requires c κs = search needs
 
--- src/bodies.rt:76:1
 returns-4 : tie.Need-returns-4
 returns-4 c =
     let k = c .before .before .before .before .before .before .before .before .before .before .code-at .ensures in

@@ -4,19 +4,15 @@ use Rattle.grammar.specs.States.State.{atTest}
 use Rattle.reader.proofs.bodies.test_body.Statement.{statement}
 use Rattle.reader.proofs.bodies.test_body.Tie as tie
 
--- src/bodies.rt:31:9
 read-test-requires : tie.Need-read-test-requires
 read-test-requires c κs = search needs
 
--- src/bodies.rt:32:9
 concluding-requires : tie.Need-concluding-requires
 concluding-requires c κs = search needs
 
--- src/bodies.rt:33:9
 no-report-requires : tie.Need-no-report-requires
 no-report-requires c κs = search needs
 
--- src/bodies.rt:27:1
 returns : tie.Need-returns
 returns c = record { says = λ o. rw (c .no-report .ensures) (c .before .concluding .ensures .says (atTest o) _ _ (c .before .before .read-test .ensures .says o)) }
 

@@ -3,11 +3,9 @@ use borrow.Author.Needs.{needs}
 use Rattle.reader.proofs.empties.no_extent.Statement.{statement}
 use Rattle.reader.proofs.empties.no_extent.Tie as tie
 
--- src/empties.rt:66:9
 no-point-requires : tie.Need-no-point-requires
 no-point-requires c κs = search needs
 
--- src/empties.rt:63:1
 returns : tie.Need-returns
 returns c = rw (c .no-point .ensures)
 

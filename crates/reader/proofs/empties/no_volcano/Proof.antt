@@ -3,15 +3,12 @@ use borrow.Author.Needs.{needs}
 use Rattle.reader.proofs.empties.no_volcano.Statement.{statement}
 use Rattle.reader.proofs.empties.no_volcano.Tie as tie
 
--- src/empties.rt:58:9
 no-name-requires : tie.Need-no-name-requires
 no-name-requires c κs = search needs
 
--- src/empties.rt:59:9
 no-point-requires : tie.Need-no-point-requires
 no-point-requires c κs = search needs
 
--- src/empties.rt:55:1
 returns : tie.Need-returns
 returns c = rw (c .before .no-name .ensures, c .no-point .ensures)
 

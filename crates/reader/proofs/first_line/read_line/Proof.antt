@@ -4,19 +4,15 @@ use Rattle.reader.proofs.Chains.{on, off}
 use Rattle.reader.proofs.first_line.read_line.Statement.{statement}
 use Rattle.reader.proofs.first_line.read_line.Tie as tie
 
--- src/first_line.rt:118:9
 read-unit-requires : tie.Need-read-unit-requires
 read-unit-requires c κs = search needs
 
--- src/first_line.rt:130:9
 returns : tie.Need-returns
 returns c = record { says = λ h. off (c .before .before .before .read-unit .ensures .says h) (c .if1 .taken); within = search needs }
 
--- src/first_line.rt:141:9
 read-valid-requires : tie.Need-read-valid-requires
 read-valid-requires c κs = search needs
 
--- src/first_line.rt:114:1
 returns-2 : tie.Need-returns-2
 returns-2 c =
     let first = c .before .before .before .before .before .read-unit in

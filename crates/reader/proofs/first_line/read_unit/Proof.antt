@@ -11,16 +11,13 @@ use Rattle.reader.proofs.FixedWords.{fixed-sigmet}
 use Rattle.reader.proofs.first_line.read_unit.Statement.{statement}
 use Rattle.reader.proofs.first_line.read_unit.Tie as tie
 
--- src/first_line.rt:46:9
 letters-at-requires : tie.Need-letters-at-requires
 letters-at-requires c κs = search needs
 
--- src/first_line.rt:48:9
 returns : tie.Need-returns
 unfolding step
 returns c = record { says = λ h. off (c .before .before .letters-at .ensures .says (atUnit h) (atSigmet h) refl refl) (c .if1 .taken); within = search needs }
 
--- src/first_line.rt:55:9
 fixed-at-requires : tie.Need-fixed-at-requires
 fixed-at-requires c κs = search needs
 
@@ -32,15 +29,12 @@ up-to-sigmet c h =
     on (u .ensures .says (atUnit h) (atSigmet h) refl refl) (c .before .if1 .left)
     (c .fixed-at .ensures .says _ fixed-sigmet (atSigmet h (u .result .letters)) (atSequence h (u .result .letters)) refl refl)
 
--- src/first_line.rt:57:9
 returns-2 : tie.Need-returns-2
 returns-2 c = record { says = λ h. off (up-to-sigmet (c .before .before) h) (c .if2 .taken); within = search needs }
 
--- src/first_line.rt:64:9
 sequence-at-requires : tie.Need-sequence-at-requires
 sequence-at-requires c κs = search needs
 
--- src/first_line.rt:37:1
 returns-3 : tie.Need-returns-3
 unfolding step
 returns-3 c =

@@ -13,16 +13,13 @@ use Rattle.reader.proofs.FixedWords.{fixed-valid}
 use Rattle.reader.proofs.first_line.read_valid.Statement.{statement}
 use Rattle.reader.proofs.first_line.read_valid.Tie as tie
 
--- src/first_line.rt:83:9
 fixed-at-requires : tie.Need-fixed-at-requires
 fixed-at-requires c κs = search needs
 
--- src/first_line.rt:85:9
 returns : tie.Need-returns
 unfolding step
 returns c = record { says = λ h u s. off (c .before .before .fixed-at .ensures .says _ fixed-valid (atValid h u s) (atPeriod h u s) refl refl) (c .if1 .taken); within = search needs }
 
--- src/first_line.rt:95:9
 period-at-requires : tie.Need-period-at-requires
 period-at-requires c κs = search needs
 
@@ -33,15 +30,12 @@ up-to-period c h u s =
     on (c .before .before .before .fixed-at .ensures .says _ fixed-valid (atValid h u s) (atPeriod h u s) refl refl) (c .before .if1 .left)
     (c .period-at .ensures .says (atPeriod h u s) (atOffice h u s) refl refl)
 
--- src/first_line.rt:98:9
 returns-2 : tie.Need-returns-2
 returns-2 c = record { says = λ h u s. off (up-to-period (c .before .before .before) h u s) (c .if2 .taken); within = search needs }
 
--- src/first_line.rt:105:9
 office-at-requires : tie.Need-office-at-requires
 office-at-requires c κs = search needs
 
--- src/first_line.rt:74:1
 returns-3 : tie.Need-returns-3
 unfolding step
 returns-3 c =

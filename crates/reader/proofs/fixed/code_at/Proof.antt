@@ -1,3 +1,4 @@
+-- `code_at` meets its contract: the code is that of the next word. Assumes nothing.
 use borrow.Author.Needs.{needs}
 use Rattle.reader.proofs.KindLaws.{code-at-is}
 use Rattle.reader.proofs.fixed.code_at.Statement.{statement}
@@ -7,27 +8,21 @@ use Rattle.reader.proofs.fixed.code_at.Lts as lts
 use Rattle.figures.proofs.code.Reads as code-reads
 use Rattle.reader.proofs.fixed.word.Reads as word-reads
 
--- src/kinds.rt:47:9
 word-requires : tie.Need-word-requires
 word-requires c κs = search needs
 
--- src/kinds.rt:50:21
 sub-code : tie.Need-sub-code
 sub-code c = search needs
 
--- src/kinds.rt:50:21
 part-code-start : tie.Need-part-code-start
 part-code-start c = search needs
 
--- src/kinds.rt:50:21
 part-code-end : tie.Need-part-code-end
 part-code-end c = search needs
 
--- src/kinds.rt:50:9
 code-requires : tie.Need-code-requires
 code-requires c κs = search needs
 
--- src/kinds.rt:43:1
 returns : tie.Need-returns
 returns c = code-at-is (c .before .before .word .ensures) (c .code .ensures)
 

@@ -1,3 +1,4 @@
+-- `fixed_at` meets its contract: the code tells whether the word is the fixed word. Assumes nothing.
 use borrow.Author.Needs.{needs}
 use Rattle.reader.proofs.KindLaws.{fixed-yes, fixed-no}
 use Rattle.reader.proofs.fixed.fixed_at.Statement.{statement}
@@ -6,15 +7,12 @@ use Rattle.reader.proofs.fixed.fixed_at.Reads as reads
 use Rattle.reader.proofs.fixed.fixed_at.Lts as lts
 use Rattle.reader.proofs.fixed.code_at.Reads as code-at-reads
 
--- src/kinds.rt:58:9
 code-at-requires : tie.Need-code-at-requires
 code-at-requires c κs = search needs
 
--- src/kinds.rt:60:9
 returns : tie.Need-returns
 returns c = fixed-yes (search needs) (c .before .before .code-at .ensures) _ _ (c .if1 .taken)
 
--- src/kinds.rt:54:1
 returns-2 : tie.Need-returns-2
 returns-2 c = fixed-no (search needs) (c .before .before .code-at .ensures) _ _ (c .if1 .left)
 

@@ -1,3 +1,4 @@
+-- `perhaps_at` meets its contract: the code tells, and another word stays. Assumes nothing.
 use borrow.Author.Needs.{needs}
 use Rattle.reader.proofs.KindLaws.{perhaps-yes, perhaps-no}
 use Rattle.reader.proofs.fixed.perhaps_at.Statement.{statement}
@@ -6,15 +7,12 @@ use Rattle.reader.proofs.fixed.perhaps_at.Reads as reads
 use Rattle.reader.proofs.fixed.perhaps_at.Lts as lts
 use Rattle.reader.proofs.fixed.code_at.Reads as code-at-reads
 
--- src/kinds.rt:75:9
 code-at-requires : tie.Need-code-at-requires
 code-at-requires c κs = search needs
 
--- src/kinds.rt:77:9
 returns : tie.Need-returns
 returns c = perhaps-yes (search needs) (c .before .before .code-at .ensures) _ (c .if1 .taken)
 
--- src/kinds.rt:71:1
 returns-2 : tie.Need-returns-2
 returns-2 c = perhaps-no (search needs) (c .before .before .code-at .ensures) _ (c .if1 .left)
 

@@ -1,3 +1,4 @@
+-- `word` meets its contract: the word that `word_at` finds lies within the text. Assumes nothing.
 use borrow.Author.Needs.{needs}
 use Rattle.reader.proofs.Going.{word-at-within}
 use Rattle.reader.proofs.fixed.word.Statement.{statement}
@@ -6,11 +7,9 @@ use Rattle.reader.proofs.fixed.word.Reads as reads
 use Rattle.reader.proofs.fixed.word.Lts as lts
 use Rattle.words.proofs.word_at.Reads as word-at-reads
 
--- src/kinds.rt:40:5
 word-at-requires : tie.Need-word-at-requires
 word-at-requires c κs = search needs
 
--- src/kinds.rt:36:1
 returns : tie.Need-returns
 returns c = search (word-at-within, needs)
 

@@ -3,11 +3,9 @@ use borrow.Author.Needs.{needs}
 use Rattle.reader.proofs.locating.bounded.Statement.{statement}
 use Rattle.reader.proofs.locating.bounded.Tie as tie
 
--- src/locating.rt:43:9
 no-extent-requires : tie.Need-no-extent-requires
 no-extent-requires c κs = search needs
 
--- src/locating.rt:40:1
 returns : tie.Need-returns
 returns c = rw (c .before .no-extent .ensures)
 

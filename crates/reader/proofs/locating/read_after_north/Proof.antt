@@ -14,19 +14,15 @@ use Rattle.reader.proofs.Sides.{following-number, on-step, past-step}
 use Rattle.reader.proofs.locating.read_after_north.Statement.{statement}
 use Rattle.reader.proofs.locating.read_after_north.Tie as tie
 
--- src/locating.rt:103:9
 perhaps-at-requires : tie.Need-perhaps-at-requires
 perhaps-at-requires c κs = search needs
 
--- src/locating.rt:105:13
 no-side-requires : tie.Need-no-side-requires
 no-side-requires c κs = search needs
 
--- src/locating.rt:106:13
 bounded-requires : tie.Need-bounded-requires
 bounded-requires c κs = search needs
 
--- src/locating.rt:107:9
 returns : tie.Need-returns
 unfolding placeStep
 returns c =
@@ -38,11 +34,9 @@ returns c =
       within = search needs;
     }
 
--- src/locating.rt:113:5
 read-second-requires : tie.Need-read-second-requires
 read-second-requires c κs = search needs
 
--- src/locating.rt:99:1
 returns-2 : tie.Need-returns-2
 unfolding placeStep
 returns-2 c =

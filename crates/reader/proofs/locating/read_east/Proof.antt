@@ -5,27 +5,21 @@ use Rattle.reader.proofs.Sides.{longitude-of, longitude-bound}
 use Rattle.reader.proofs.locating.read_east.Statement.{statement}
 use Rattle.reader.proofs.locating.read_east.Tie as tie
 
--- src/locating.rt:60:9
 fixed-at-requires : tie.Need-fixed-at-requires
 fixed-at-requires c κs = search needs
 
--- src/locating.rt:62:13
 no-extent-requires : tie.Need-no-extent-requires
 no-extent-requires c κs = search needs
 
--- src/locating.rt:63:9
 returns : tie.Need-returns
 returns c = record { says = λ site n. off (longitude-of (c .before .before .before .fixed-at .ensures) site n) (c .before .if1 .taken); within = search needs }
 
--- src/locating.rt:69:9
 longitude-at-requires : tie.Need-longitude-at-requires
 longitude-at-requires c κs = search needs
 
--- src/locating.rt:72:9
 bounded-requires : tie.Need-bounded-requires
 bounded-requires c κs = search needs
 
--- src/locating.rt:56:1
 returns-2 : tie.Need-returns-2
 returns-2 c = record {
   says = λ site n. rw (c .bounded .ensures)

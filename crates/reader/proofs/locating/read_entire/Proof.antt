@@ -9,15 +9,12 @@ use Rattle.reader.proofs.Sides.{fixed-there, entire-cta, entire-fir}
 use Rattle.reader.proofs.locating.read_entire.Statement.{statement}
 use Rattle.reader.proofs.locating.read_entire.Tie as tie
 
--- src/locating.rt:150:9
 fixed-at-requires : tie.Need-fixed-at-requires
 fixed-at-requires c κs = search needs
 
--- src/locating.rt:151:9
 no-extent-requires : tie.Need-no-extent-requires
 no-extent-requires c κs = search needs
 
--- src/locating.rt:145:1
 returns : tie.Need-returns
 unfolding placeStep
 returns c =

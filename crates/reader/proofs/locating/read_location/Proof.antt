@@ -25,19 +25,15 @@ no-north c = side-no (search needs) (c .before .before .code-at .ensures) northS
 no-east : (c : tie.Else2) → sideWord eastWest (wordFrom (now (c .before .before .before .before .before .before .args .text)) (c .before .before .before .before .before .before .args .at)) ≡ false
 no-east c = side-no (search needs) (c .before .before .before .before .code-at .ensures) eastWest (c .before .side-letter2 .ensures) (lit< tt) (lit< tt) (c .if2 .left)
 
--- src/locating.rt:168:9
 code-at-requires : tie.Need-code-at-requires
 code-at-requires c κs = search needs
 
--- src/locating.rt:169:9
 side-letter-requires : tie.Need-side-letter-requires
 side-letter-requires c κs = search needs
 
--- src/locating.rt:171:9
 read-north-requires : tie.Need-read-north-requires
 read-north-requires c κs = search needs
 
--- src/locating.rt:171:9
 returns : tie.Need-returns
 unfolding placeStep locating
 returns c =
@@ -47,19 +43,15 @@ returns c =
       within = search needs;
     }
 
--- src/locating.rt:173:9
 side-letter-requires-2 : tie.Need-side-letter-requires-2
 side-letter-requires-2 c κs = search needs
 
--- src/locating.rt:175:13
 no-side-requires : tie.Need-no-side-requires
 no-side-requires c κs = search needs
 
--- src/locating.rt:176:9
 read-east-requires : tie.Need-read-east-requires
 read-east-requires c κs = search needs
 
--- src/locating.rt:176:9
 returns-2 : tie.Need-returns-2
 unfolding placeStep locating
 returns-2 c = record {
@@ -71,11 +63,9 @@ returns-2 c = record {
   within = search needs;
 }
 
--- src/locating.rt:179:9
 read-entire-requires : tie.Need-read-entire-requires
 read-entire-requires c κs = search needs
 
--- src/locating.rt:179:9
 returns-3 : tie.Need-returns-3
 unfolding placeStep locating
 returns-3 c =
@@ -89,11 +79,9 @@ returns-3 c =
       within = search needs;
     }
 
--- src/locating.rt:182:9
 read-outline-requires : tie.Need-read-outline-requires
 read-outline-requires c κs = search needs
 
--- src/locating.rt:182:9
 returns-4 : tie.Need-returns-4
 unfolding placeStep locating
 returns-4 c =
@@ -108,11 +96,9 @@ returns-4 c =
       within = search needs;
     }
 
--- src/locating.rt:184:9
 no-extent-requires : tie.Need-no-extent-requires
 no-extent-requires c κs = search needs
 
--- src/locating.rt:164:1
 returns-5 : tie.Need-returns-5
 unfolding placeStep locating
 returns-5 c =

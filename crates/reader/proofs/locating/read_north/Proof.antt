@@ -5,27 +5,21 @@ use Rattle.reader.proofs.Sides.{latitude-of, latitude-bound}
 use Rattle.reader.proofs.locating.read_north.Statement.{statement}
 use Rattle.reader.proofs.locating.read_north.Tie as tie
 
--- src/locating.rt:121:9
 fixed-at-requires : tie.Need-fixed-at-requires
 fixed-at-requires c κs = search needs
 
--- src/locating.rt:123:13
 no-extent-requires : tie.Need-no-extent-requires
 no-extent-requires c κs = search needs
 
--- src/locating.rt:124:9
 returns : tie.Need-returns
 returns c = record { says = λ site n. off (latitude-of (c .before .before .before .fixed-at .ensures) site n) (c .before .if1 .taken); within = search needs }
 
--- src/locating.rt:130:9
 latitude-at-requires : tie.Need-latitude-at-requires
 latitude-at-requires c κs = search needs
 
--- src/locating.rt:132:13
 no-extent-requires-2 : tie.Need-no-extent-requires-2
 no-extent-requires-2 c κs = search needs
 
--- src/locating.rt:133:9
 returns-2 : tie.Need-returns-2
 returns-2 c = record {
   says = λ site n. off
@@ -34,11 +28,9 @@ returns-2 c = record {
   within = search needs;
 }
 
--- src/locating.rt:141:5
 read-after-north-requires : tie.Need-read-after-north-requires
 read-after-north-requires c κs = search needs
 
--- src/locating.rt:117:1
 returns-3 : tie.Need-returns-3
 returns-3 c = record {
   says = λ site n. on (latitude-of (c .before .before .before .before .before .before .before .fixed-at .ensures) site n) (c .before .before .before .before .before .if1 .left)

@@ -12,19 +12,15 @@ use Rattle.reader.proofs.Sides.{nowhere-step, side-no, side-on}
 use Rattle.reader.proofs.locating.read_second.Statement.{statement}
 use Rattle.reader.proofs.locating.read_second.Tie as tie
 
--- src/locating.rt:85:9
 code-at-requires : tie.Need-code-at-requires
 code-at-requires c κs = search needs
 
--- src/locating.rt:86:9
 side-letter-requires : tie.Need-side-letter-requires
 side-letter-requires c κs = search needs
 
--- src/locating.rt:88:13
 no-extent-requires : tie.Need-no-extent-requires
 no-extent-requires c κs = search needs
 
--- src/locating.rt:89:9
 returns : tie.Need-returns
 unfolding placeStep
 returns c =
@@ -36,11 +32,9 @@ returns c =
       within = search needs;
     }
 
--- src/locating.rt:95:5
 read-east-requires : tie.Need-read-east-requires
 read-east-requires c κs = search needs
 
--- src/locating.rt:81:1
 returns-2 : tie.Need-returns-2
 unfolding placeStep
 returns-2 c =

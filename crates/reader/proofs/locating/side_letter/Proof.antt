@@ -4,23 +4,18 @@ use Rattle.reader.proofs.Sides.{side-plus, side-minus, side-neither}
 use Rattle.reader.proofs.locating.side_letter.Statement.{statement}
 use Rattle.reader.proofs.locating.side_letter.Tie as tie
 
--- src/locating.rt:31:16
 add-if1 : tie.Need-add-if1
 add-if1 c = search needs
 
--- src/locating.rt:32:9
 returns : tie.Need-returns
 returns c = side-plus _ _ (search needs) (search needs) (c .if1 .taken)
 
--- src/locating.rt:34:16
 add-if2 : tie.Need-add-if2
 add-if2 c = search needs
 
--- src/locating.rt:35:9
 returns-2 : tie.Need-returns-2
 returns-2 c = side-minus _ _ (search needs) (search needs) (c .if2 .taken)
 
--- src/locating.rt:28:1
 returns-3 : tie.Need-returns-3
 returns-3 c = side-neither _ _ (search needs) (search needs) (c .before .if1 .left) (c .if2 .left)
 

@@ -6,59 +6,45 @@ use Rattle.reader.proofs.NameText.{first-long, first-other, first-in}
 use Rattle.reader.proofs.naming.first_word.Statement.{statement}
 use Rattle.reader.proofs.naming.first_word.Tie as tie
 
--- src/naming.rt:44:9
 no-name-requires : tie.Need-no-name-requires
 no-name-requires c κs = search needs
 
--- src/naming.rt:45:9
 word-requires : tie.Need-word-requires
 word-requires c κs = search needs
 
--- src/naming.rt:48:16
 sub-long : tie.Need-sub-long
 sub-long c = search needs
 
--- src/naming.rt:50:9
 returns : tie.Need-returns
 returns c = first-long (c .before .word .ensures) _ (c .if1 .taken)
 
--- src/naming.rt:56:17
 sub-in-name : tie.Need-sub-in-name
 sub-in-name c = search needs
 
--- src/naming.rt:56:17
 part-in-name-start : tie.Need-part-in-name-start
 part-in-name-start c = search needs
 
--- src/naming.rt:56:17
 part-in-name-end : tie.Need-part-in-name-end
 part-in-name-end c = search needs
 
--- src/naming.rt:56:9
 in-name-requires : tie.Need-in-name-requires
 in-name-requires c κs = search needs
 
--- src/naming.rt:57:9
 returns-2 : tie.Need-returns-2
 returns-2 c = first-other (c .before .before .before .before .word .ensures) (c .before .in-name .ensures) _ (search (not-true, needs))
 
--- src/naming.rt:64:36
 sub-put-word : tie.Need-sub-put-word
 sub-put-word c = search needs
 
--- src/naming.rt:64:36
 part-put-word-start : tie.Need-part-put-word-start
 part-put-word-start c = search needs
 
--- src/naming.rt:64:36
 part-put-word-end : tie.Need-part-put-word-end
 part-put-word-end c = search needs
 
--- src/naming.rt:64:9
 put-word-requires : tie.Need-put-word-requires
 put-word-requires c κs = search needs
 
--- src/naming.rt:40:1
 returns-3 : tie.Need-returns-3
 returns-3 c =
     let none = c .before .before .before .before .before .before .before .before .no-name in

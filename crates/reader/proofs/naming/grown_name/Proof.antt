@@ -6,27 +6,21 @@ use Rattle.reader.proofs.NameText.{grown-says}
 use Rattle.reader.proofs.naming.grown_name.Statement.{statement}
 use Rattle.reader.proofs.naming.grown_name.Tie as tie
 
--- src/naming.rt:79:5
 array-write-bytes : tie.Need-array-write-bytes
 array-write-bytes c = search needs
 
--- src/naming.rt:80:32
 add-put-word : tie.Need-add-put-word
 add-put-word c = search needs
 
--- src/naming.rt:80:9
 put-word-requires : tie.Need-put-word-requires
 put-word-requires c κs = search needs
 
--- src/naming.rt:83:16
 add-t9 : tie.Need-add-t9
 add-t9 c = search needs
 
--- src/naming.rt:83:16
 add-t11 : tie.Need-add-t11
 add-t11 c = search needs
 
--- src/naming.rt:73:1
 returns : tie.Need-returns
 returns c =
     let given = c .before .before .before .args in

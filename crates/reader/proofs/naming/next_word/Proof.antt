@@ -5,63 +5,48 @@ use Rattle.reader.proofs.NameText.{next-long, next-other, next-in}
 use Rattle.reader.proofs.naming.next_word.Statement.{statement}
 use Rattle.reader.proofs.naming.next_word.Tie as tie
 
--- src/naming.rt:92:9
 word-requires : tie.Need-word-requires
 word-requires c κs = search needs
 
--- src/naming.rt:95:16
 sub-room : tie.Need-sub-room
 sub-room c = search needs
 
--- src/naming.rt:96:20
 sub-if1 : tie.Need-sub-if1
 sub-if1 c = search needs
 
--- src/naming.rt:96:15
 add-if1 : tie.Need-add-if1
 add-if1 c = search needs
 
--- src/naming.rt:97:9
 returns : tie.Need-returns
 returns c = next-long (c .before .before .word .ensures) _ (search needs) (search needs) (c .if1 .taken)
 
--- src/naming.rt:103:17
 sub-in-name : tie.Need-sub-in-name
 sub-in-name c = search needs
 
--- src/naming.rt:103:17
 part-in-name-start : tie.Need-part-in-name-start
 part-in-name-start c = search needs
 
--- src/naming.rt:103:17
 part-in-name-end : tie.Need-part-in-name-end
 part-in-name-end c = search needs
 
--- src/naming.rt:103:9
 in-name-requires : tie.Need-in-name-requires
 in-name-requires c κs = search needs
 
--- src/naming.rt:104:9
 returns-2 : tie.Need-returns-2
 returns-2 c = next-other (c .before .before .before .before .before .word .ensures) (c .before .in-name .ensures) _ (search needs) (search (not-true, needs))
 
--- src/naming.rt:110:33
 sub-grown-name : tie.Need-sub-grown-name
 sub-grown-name c = search needs
 
--- src/naming.rt:110:33
 part-grown-name-start : tie.Need-part-grown-name-start
 part-grown-name-start c = search needs
 
--- src/naming.rt:110:33
 part-grown-name-end : tie.Need-part-grown-name-end
 part-grown-name-end c = search needs
 
--- src/naming.rt:110:9
 grown-name-requires : tie.Need-grown-name-requires
 grown-name-requires c κs = search needs
 
--- src/naming.rt:88:1
 returns-3 : tie.Need-returns-3
 returns-3 c =
     next-in (c .before .before .before .before .before .before .before .word .ensures) (c .before .before .before .in-name .ensures) _ _ (search (not-false, needs)) (search needs)

@@ -14,33 +14,26 @@ Inv-loop text at mountain limit refusal name₀ place₀ name place = NamedSoFar
 abbrev μ-loop : tie.MeasureT-loop
 μ-loop text at mountain limit refusal name₀ place₀ name place = length text - place
 
--- src/naming.rt:129:9
 first-word-requires : tie.Need-first-word-requires Inv-loop μ-loop
 first-word-requires c κs = search needs
 
--- src/naming.rt:133:9
 returns : tie.Need-returns Inv-loop μ-loop
 returns c = name-refused (search needs) (c .before .before .before .first-word .ensures) (search (not-true, needs)) (search needs)
 
--- src/naming.rt:139:5
 loop-holds : tie.Need-loop-holds Inv-loop μ-loop
 loop-holds c = name-begun (search needs) (c .before .before .before .first-word .ensures) (search (not-false, needs))
 
--- src/naming.rt:140:13
 next-word-requires : tie.Need-next-word-requires Inv-loop μ-loop
 next-word-requires c κs = search needs
 
--- src/naming.rt:142:13
 returns-2 : tie.Need-returns-2 Inv-loop μ-loop
 returns-2 c = name-ends (c .before .before .before .loop .inv) (c .before .before .next-word .ensures) (search (not-true, needs))
 
--- src/naming.rt:139:5
 loop-less : tie.Need-loop-less Inv-loop μ-loop
 loop-less c =
     let next = c .before .before .before .next-word .ensures in
     omega (arith, next .moves (search (not-false, needs)), next .within)
 
--- src/naming.rt:139:5
 loop-again : tie.Need-loop-again Inv-loop μ-loop
 loop-again c = name-grown (c .before .before .before .before .loop .inv) (c .before .before .before .next-word .ensures) (search (not-false, needs))
 

@@ -9,15 +9,12 @@ use Rattle.reader.proofs.KindLaws.{is-yes, is-no, goes-fixed, dead-word
 use Rattle.reader.proofs.observing.read_observation.Statement.{statement}
 use Rattle.reader.proofs.observing.read_observation.Tie as tie
 
--- src/observing.rt:54:9
 code-at-requires : tie.Need-code-at-requires
 code-at-requires c κs = search needs
 
--- src/observing.rt:56:9
 read-observed-requires : tie.Need-read-observed-requires
 read-observed-requires c κs = search needs
 
--- src/observing.rt:56:9
 returns : tie.Need-returns
 unfolding step
 returns c =
@@ -28,11 +25,9 @@ returns c =
       within = search needs;
     }
 
--- src/observing.rt:59:9
 read-observed-requires-2 : tie.Need-read-observed-requires-2
 read-observed-requires-2 c κs = search needs
 
--- src/observing.rt:59:9
 returns-2 : tie.Need-returns-2
 unfolding step
 returns-2 c =
@@ -46,7 +41,6 @@ returns-2 c =
       within = search needs;
     }
 
--- src/observing.rt:50:1
 returns-3 : tie.Need-returns-3
 unfolding step
 returns-3 c =

@@ -1,3 +1,4 @@
+-- `read_observed` meets its contract: with `AT` a time, without it the location. Assumes nothing.
 use borrow.Author.Needs.{needs}
 use mathlib.Core.Path.{refl}
 use borrow.Author.Tests.{not-true, not-false}
@@ -15,11 +16,9 @@ use Rattle.reader.proofs.observing.read_observed.Lts as lts
 use Rattle.reader.proofs.fixed.perhaps_at.Reads as perhaps-at-reads
 use Rattle.reader.proofs.kinds.time_at.Reads as time-at-reads
 
--- src/observing.rt:24:9
 perhaps-at-requires : tie.Need-perhaps-at-requires
 perhaps-at-requires c κs = search needs
 
--- src/observing.rt:27:9
 returns : tie.Need-returns
 unfolding step
 returns c =
@@ -28,11 +27,9 @@ returns c =
       within = search needs;
     }
 
--- src/observing.rt:37:9
 time-at-requires : tie.Need-time-at-requires
 time-at-requires c κs = search needs
 
--- src/observing.rt:20:1
 returns-2 : tie.Need-returns-2
 unfolding step
 returns-2 c =

@@ -4,19 +4,15 @@ use Rattle.reader.proofs.Chains.{on, off}
 use Rattle.reader.proofs.opening.read_heading.Statement.{statement}
 use Rattle.reader.proofs.opening.read_heading.Tie as tie
 
--- src/opening.rt:101:9
 read-sent-requires : tie.Need-read-sent-requires
 read-sent-requires c κs = search needs
 
--- src/opening.rt:105:9
 returns : tie.Need-returns
 returns c = record { says = off (c .before .before .before .before .read-sent .ensures .says) (c .if1 .taken); within = search needs }
 
--- src/opening.rt:116:9
 read-correction-requires : tie.Need-read-correction-requires
 read-correction-requires c κs = search needs
 
--- src/opening.rt:97:1
 returns-2 : tie.Need-returns-2
 returns-2 c =
     let first = c .before .before .before .before .before .read-sent in

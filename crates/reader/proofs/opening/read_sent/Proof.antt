@@ -1,3 +1,4 @@
+-- `read_sent` meets its contract: three words, one after another. Assumes nothing.
 use borrow.Author.Needs.{needs}
 use mathlib.Core.Path.{refl}
 use Rattle.grammar.specs.Steps.{step}
@@ -11,20 +12,16 @@ use Rattle.reader.proofs.kinds.designator_at.Reads as designator-at-rea
 use Rattle.reader.proofs.kinds.group_at.Reads as group-at-reads
 use Rattle.reader.proofs.kinds.letters_at.Reads as letters-at-reads
 
--- src/opening.rt:44:9
 designator-at-requires : tie.Need-designator-at-requires
 designator-at-requires c κs = search needs
 
--- src/opening.rt:47:9
 returns : tie.Need-returns
 unfolding step
 returns c = record { says = off (c .before .before .before .designator-at .ensures .says atDesignator atCentre refl refl) (c .if1 .taken); within = search needs }
 
--- src/opening.rt:55:9
 letters-at-requires : tie.Need-letters-at-requires
 letters-at-requires c κs = search needs
 
--- src/opening.rt:57:9
 returns-2 : tie.Need-returns-2
 unfolding step
 returns-2 c =
@@ -37,11 +34,9 @@ returns-2 c =
       within = search needs;
     }
 
--- src/opening.rt:65:9
 group-at-requires : tie.Need-group-at-requires
 group-at-requires c κs = search needs
 
--- src/opening.rt:35:1
 returns-3 : tie.Need-returns-3
 unfolding step
 returns-3 c =

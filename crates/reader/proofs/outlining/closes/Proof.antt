@@ -4,15 +4,12 @@ use Rattle.reader.proofs.OutlineLaws.{none-closes, same-closes}
 use Rattle.reader.proofs.outlining.closes.Statement.{statement}
 use Rattle.reader.proofs.outlining.closes.Tie as tie
 
--- src/outlining.rt:48:9
 returns : tie.Need-returns
 returns c = none-closes (c .if1 .taken) _
 
--- src/outlining.rt:50:5
 same-point-requires : tie.Need-same-point-requires
 same-point-requires c κs = search needs
 
--- src/outlining.rt:44:1
 returns-2 : tie.Need-returns-2
 returns-2 c = rw (c .same-point .ensures) (same-closes (c .before .if1 .left) _)
 

@@ -4,23 +4,18 @@ use Rattle.reader.proofs.OutlineLaws.{first-follows, next-follows}
 use Rattle.reader.proofs.outlining.may_follow.Statement.{statement}
 use Rattle.reader.proofs.outlining.may_follow.Tie as tie
 
--- src/outlining.rt:37:9
 returns : tie.Need-returns
 returns c = first-follows (c .if1 .taken) _
 
--- src/outlining.rt:40:12
 add-either : tie.Need-add-either
 add-either c = search needs
 
--- src/outlining.rt:40:37
 same-latitude-requires : tie.Need-same-latitude-requires
 same-latitude-requires c κs = search needs
 
--- src/outlining.rt:40:5
 either-requires : tie.Need-either-requires
 either-requires c κs = search needs
 
--- src/outlining.rt:32:1
 returns-2 : tie.Need-returns-2
 returns-2 c = rw (c .either .ensures, c .before .same-latitude .ensures) (next-follows (c .before .before .before .if1 .left) _)
 

@@ -5,41 +5,32 @@ use Rattle.reader.proofs.OutlineLaws.{latitude-bad, latitude-late, lati
 use Rattle.reader.proofs.outlining.next_latitude.Statement.{statement}
 use Rattle.reader.proofs.outlining.next_latitude.Tie as tie
 
--- src/outlining.rt:57:9
 word-requires : tie.Need-word-requires
 word-requires c κs = search needs
 
--- src/outlining.rt:60:31
 sub-latitude : tie.Need-sub-latitude
 sub-latitude c = search needs
 
--- src/outlining.rt:60:31
 part-latitude-start : tie.Need-part-latitude-start
 part-latitude-start c = search needs
 
--- src/outlining.rt:60:31
 part-latitude-end : tie.Need-part-latitude-end
 part-latitude-end c = search needs
 
--- src/outlining.rt:60:9
 latitude-requires : tie.Need-latitude-requires
 latitude-requires c κs = search needs
 
--- src/outlining.rt:62:9
 returns : tie.Need-returns
 returns c = latitude-bad (search needs) (c .before .before .before .before .word .ensures) (c .before .before .latitude .ensures) (c .if1 .taken)
 
--- src/outlining.rt:68:9
 may-follow-requires : tie.Need-may-follow-requires
 may-follow-requires c κs = search needs
 
--- src/outlining.rt:69:9
 returns-2 : tie.Need-returns-2
 returns-2 c =
     latitude-late (search needs) (c .before .before .before .before .before .before .word .ensures) (c .before .before .before .before .latitude .ensures)
     (c .before .may-follow .ensures) (search (not-true, needs))
 
--- src/outlining.rt:53:1
 returns-3 : tie.Need-returns-3
 returns-3 c =
     latitude-yes (search needs) (c .before .before .before .before .before .before .word .ensures) (c .before .before .before .before .latitude .ensures)

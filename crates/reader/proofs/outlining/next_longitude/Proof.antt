@@ -10,35 +10,27 @@ use Rattle.reader.proofs.OutlineLaws.{longitude-bad, longitude-unfit, l
 use Rattle.reader.proofs.outlining.next_longitude.Statement.{statement}
 use Rattle.reader.proofs.outlining.next_longitude.Tie as tie
 
--- src/outlining.rt:94:9
 word-requires : tie.Need-word-requires
 word-requires c κs = search needs
 
--- src/outlining.rt:97:26
 sub-longitude : tie.Need-sub-longitude
 sub-longitude c = search needs
 
--- src/outlining.rt:97:26
 part-longitude-start : tie.Need-part-longitude-start
 part-longitude-start c = search needs
 
--- src/outlining.rt:97:26
 part-longitude-end : tie.Need-part-longitude-end
 part-longitude-end c = search needs
 
--- src/outlining.rt:97:9
 longitude-requires : tie.Need-longitude-requires
 longitude-requires c κs = search needs
 
--- src/outlining.rt:102:9
 closes-requires : tie.Need-closes-requires
 closes-requires c κs = search needs
 
--- src/outlining.rt:104:14
 add-fits : tie.Need-add-fits
 add-fits c = search needs
 
--- src/outlining.rt:106:9
 add-fits-2 : tie.Need-add-fits-2
 add-fits-2 c = search needs
 
@@ -47,19 +39,16 @@ fits-is : (c : tie.Joined1) → c .if1 .fits
     ≡ pick (c .before .closes .result) (leb 4 (c .before .before .before .before .before .before .args .count + 1)) (ltb (c .before .before .before .before .before .before .args .count + 1) 7)
 fits-is c = ⊎-elim (λ w. w .1 ∙ rw (w .0 .taken)) (λ w. w .1 ∙ rw (w .0 .left)) (c .if1 .came)
 
--- src/outlining.rt:109:9
 returns : tie.Need-returns
 returns c =
     longitude-bad (search needs) (c .before .before .before .before .before .before .word .ensures) (c .before .before .before .before .longitude .ensures)
     (c .before .before .before .closes .ensures) (fits-is (c .before .before)) (λ z. search needs) (c .if2 .taken)
 
--- src/outlining.rt:117:9
 returns-2 : tie.Need-returns-2
 returns-2 c =
     longitude-unfit (search needs) (c .before .before .before .before .before .before .before .word .ensures) (c .before .before .before .before .before .longitude .ensures)
     (c .before .before .before .before .closes .ensures) (fits-is (c .before .before .before)) (λ z. search needs) (search (not-true, needs))
 
--- src/outlining.rt:83:1
 returns-3 : tie.Need-returns-3
 returns-3 c =
     longitude-yes (search needs) (c .before .before .before .before .before .before .before .word .ensures) (c .before .before .before .before .before .longitude .ensures)

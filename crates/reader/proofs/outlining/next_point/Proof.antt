@@ -13,11 +13,9 @@ use Rattle.reader.proofs.Sides.{fixed-on}
 use Rattle.reader.proofs.outlining.next_point.Statement.{statement}
 use Rattle.reader.proofs.outlining.next_point.Tie as tie
 
--- src/outlining.rt:137:9
 next-latitude-requires : tie.Need-next-latitude-requires
 next-latitude-requires c κs = search needs
 
--- src/outlining.rt:140:9
 returns : tie.Need-returns
 returns c =
     record {
@@ -27,11 +25,9 @@ returns c =
       within = search needs;
     }
 
--- src/outlining.rt:147:9
 next-longitude-requires : tie.Need-next-longitude-requires
 next-longitude-requires c κs = search needs
 
--- src/outlining.rt:149:9
 returns-2 : tie.Need-returns-2
 returns-2 c =
     let north = c .before .before .before .before .before .before .next-latitude .ensures in
@@ -44,7 +40,6 @@ returns-2 c =
       within = search needs;
     }
 
--- src/outlining.rt:152:9
 returns-3 : tie.Need-returns-3
 returns-3 c =
     record {
@@ -56,11 +51,9 @@ returns-3 c =
       within = search needs;
     }
 
--- src/outlining.rt:154:9
 fixed-at-requires : tie.Need-fixed-at-requires
 fixed-at-requires c κs = search needs
 
--- src/outlining.rt:133:1
 returns-4 : tie.Need-returns-4
 unfolding placeStep
 returns-4 c =

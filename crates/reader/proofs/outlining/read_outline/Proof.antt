@@ -13,55 +13,42 @@ Inv-loop text at refusal points₀ count₀ place₀ points count place = Gone t
 abbrev μ-loop : tie.MeasureT-loop
 μ-loop text at refusal points₀ count₀ place₀ points count place = mostPoints - count
 
--- src/outlining.rt:169:9
 no-point-requires : tie.Need-no-point-requires Inv-loop μ-loop
 no-point-requires c κs = search needs
 
--- src/outlining.rt:173:5
 loop-holds : tie.Need-loop-holds Inv-loop μ-loop
 loop-holds c = rw (c .no-point .ensures) (gone-none (search needs))
 
--- src/outlining.rt:174:21
 array-copy-out-first : tie.Need-array-copy-out-first Inv-loop μ-loop
 array-copy-out-first c = search needs
 
--- src/outlining.rt:175:13
 next-point-requires : tie.Need-next-point-requires Inv-loop μ-loop
 next-point-requires c κs = search needs
 
--- src/outlining.rt:177:17
 no-extent-requires : tie.Need-no-extent-requires Inv-loop μ-loop
 no-extent-requires c κs = search needs
 
--- src/outlining.rt:178:13
 returns : tie.Need-returns Inv-loop μ-loop
 returns c = gone-refused (c .before .before .before .before .before .loop .inv) (c .before .before .before .next-point .ensures) (c .before .if1 .taken) _
 
--- src/outlining.rt:185:9
 mul-points : tie.Need-mul-points Inv-loop μ-loop
 mul-points c = search needs
 
--- src/outlining.rt:185:9
 array-set-from-points : tie.Need-array-set-from-points Inv-loop μ-loop
 array-set-from-points c = search needs
 
--- src/outlining.rt:186:9
 add-count : tie.Need-add-count Inv-loop μ-loop
 add-count c = search needs
 
--- src/outlining.rt:192:49
 cast-t19 : tie.Need-cast-t19 Inv-loop μ-loop
 cast-t19 c = search needs
 
--- src/outlining.rt:188:13
 returns-2 : tie.Need-returns-2 Inv-loop μ-loop
 returns-2 c = gone-over (c .before .before .before .before .before .before .loop .inv) (c .before .before .before .before .next-point .ensures) (c .before .before .if1 .left) (c .if2 .taken)
 
--- src/outlining.rt:173:5
 loop-less : tie.Need-loop-less Inv-loop μ-loop
 loop-less c = omega arith
 
--- src/outlining.rt:173:5
 loop-again : tie.Need-loop-again Inv-loop μ-loop
 loop-again c = gone-on (c .before .before .before .before .before .before .loop .inv) (c .before .before .before .before .next-point .ensures) (c .before .before .if1 .left) (c .if2 .left)
 

@@ -4,19 +4,15 @@ use Rattle.reader.proofs.Chains.{on, off}
 use Rattle.reader.proofs.tests.read_long_test.Statement.{statement}
 use Rattle.reader.proofs.tests.read_long_test.Tie as tie
 
--- src/tests.rt:66:9
 read-this-is-a-requires : tie.Need-read-this-is-a-requires
 read-this-is-a-requires c κs = search needs
 
--- src/tests.rt:68:9
 returns : tie.Need-returns
 returns c = record { says = λ o. off (c .before .before .read-this-is-a .ensures .says o) (c .if1 .taken); within = search needs }
 
--- src/tests.rt:70:9
 read-test-sigmet-requires : tie.Need-read-test-sigmet-requires
 read-test-sigmet-requires c κs = search needs
 
--- src/tests.rt:72:9
 returns-2 : tie.Need-returns-2
 returns-2 c =
     record {
@@ -24,11 +20,9 @@ returns-2 c =
       within = search needs;
     }
 
--- src/tests.rt:74:5
 read-please-requires : tie.Need-read-please-requires
 read-please-requires c κs = search needs
 
--- src/tests.rt:62:1
 returns-3 : tie.Need-returns-3
 returns-3 c =
     record {

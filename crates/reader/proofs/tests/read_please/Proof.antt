@@ -11,11 +11,9 @@ use Rattle.reader.proofs.Forming.{disregard-told}
 use Rattle.reader.proofs.tests.read_please.Statement.{statement}
 use Rattle.reader.proofs.tests.read_please.Tie as tie
 
--- src/tests.rt:23:9
 fixed-at-requires : tie.Need-fixed-at-requires
 fixed-at-requires c κs = search needs
 
--- src/tests.rt:25:9
 returns : tie.Need-returns
 unfolding step testTexts
 returns c =
@@ -26,11 +24,9 @@ returns c =
       within = search needs;
     }
 
--- src/tests.rt:27:9
 long-at-requires : tie.Need-long-at-requires
 long-at-requires c κs = search needs
 
--- src/tests.rt:19:1
 returns-2 : tie.Need-returns-2
 unfolding step testTexts
 returns-2 c =

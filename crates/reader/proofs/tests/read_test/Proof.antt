@@ -9,20 +9,16 @@ use Rattle.reader.proofs.FixedWords.{fixed-sigmet}
 use Rattle.reader.proofs.tests.read_test.Statement.{statement}
 use Rattle.reader.proofs.tests.read_test.Tie as tie
 
--- src/tests.rt:82:9
 perhaps-at-requires : tie.Need-perhaps-at-requires
 perhaps-at-requires c κs = search needs
 
--- src/tests.rt:84:9
 returns : tie.Need-returns
 unfolding step
 returns c = record { says = λ o. c .before .before .perhaps-at .ensures .without (search (not-true, needs)) _ fixed-sigmet (atTest o) _ (λ n. rw n) refl; within = search needs }
 
--- src/tests.rt:90:9
 read-please-requires : tie.Need-read-please-requires
 read-please-requires c κs = search needs
 
--- src/tests.rt:78:1
 returns-2 : tie.Need-returns-2
 unfolding step
 returns-2 c =

@@ -9,20 +9,16 @@ use Rattle.reader.proofs.FixedWords.{fixed-test, fixed-sigmet-comma}
 use Rattle.reader.proofs.tests.read_test_sigmet.Statement.{statement}
 use Rattle.reader.proofs.tests.read_test_sigmet.Tie as tie
 
--- src/tests.rt:54:9
 fixed-at-requires : tie.Need-fixed-at-requires
 fixed-at-requires c κs = search needs
 
--- src/tests.rt:56:9
 returns : tie.Need-returns
 unfolding step testTexts
 returns c = record { says = λ o. off (c .before .before .fixed-at .ensures .says _ fixed-test (atTestText o 3 4) (atTestText o 3 5) refl refl) (c .if1 .taken); within = search needs }
 
--- src/tests.rt:58:5
 fixed-at-requires-2 : tie.Need-fixed-at-requires-2
 fixed-at-requires-2 c κs = search needs
 
--- src/tests.rt:50:1
 returns-2 : tie.Need-returns-2
 unfolding step testTexts
 returns-2 c =

@@ -9,20 +9,16 @@ use Rattle.reader.proofs.FixedWords.{fixed-this, fixed-is, fixed-a}
 use Rattle.reader.proofs.tests.read_this_is_a.Statement.{statement}
 use Rattle.reader.proofs.tests.read_this_is_a.Tie as tie
 
--- src/tests.rt:39:9
 fixed-at-requires : tie.Need-fixed-at-requires
 fixed-at-requires c κs = search needs
 
--- src/tests.rt:41:9
 returns : tie.Need-returns
 unfolding step testTexts
 returns c = record { says = λ o. off (c .before .before .fixed-at .ensures .says _ fixed-this (atTestText o 3 1) (atTestText o 3 2) refl refl) (c .if1 .taken); within = search needs }
 
--- src/tests.rt:43:9
 fixed-at-requires-2 : tie.Need-fixed-at-requires-2
 fixed-at-requires-2 c κs = search needs
 
--- src/tests.rt:45:9
 returns-2 : tie.Need-returns-2
 unfolding step testTexts
 returns-2 c =
@@ -34,11 +30,9 @@ returns-2 c =
       within = search needs;
     }
 
--- src/tests.rt:47:5
 fixed-at-requires-3 : tie.Need-fixed-at-requires-3
 fixed-at-requires-3 c κs = search needs
 
--- src/tests.rt:35:1
 returns-3 : tie.Need-returns-3
 unfolding step testTexts
 returns-3 c =

@@ -1,3 +1,4 @@
+-- `read_heavy` meets its contract: the code tells which word it is. Assumes nothing.
 use borrow.Author.Needs.{needs}
 use mathlib.Core.Path.{refl}
 use Rattle.grammar.specs.States.State.{atHeavy}
@@ -10,18 +11,15 @@ use Rattle.reader.proofs.weather.read_heavy.Reads as reads
 use Rattle.reader.proofs.weather.read_heavy.Lts as lts
 use Rattle.reader.proofs.fixed.code_at.Reads as code-at-reads
 
--- src/weather.rt:92:9
 code-at-requires : tie.Need-code-at-requires
 code-at-requires c κs = search needs
 
--- src/weather.rt:94:9
 returns : tie.Need-returns
 unfolding step
 returns c =
     let k = c .before .before .code-at .ensures in
     record { says = λ o. goes-fixed (search needs) k fixed-ds (c .if1 .taken) (atHeavy o) _ (rw (is-yes (search needs) k fixed-ds (c .if1 .taken))); within = search needs }
 
--- src/weather.rt:101:9
 returns-2 : tie.Need-returns-2
 unfolding step
 returns-2 c =
@@ -32,7 +30,6 @@ returns-2 c =
       within = search needs;
     }
 
--- src/weather.rt:88:1
 returns-3 : tie.Need-returns-3
 unfolding step
 returns-3 c =

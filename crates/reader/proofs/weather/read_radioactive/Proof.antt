@@ -7,11 +7,9 @@ use Rattle.reader.proofs.FixedWords.{fixed-cld}
 use Rattle.reader.proofs.weather.read_radioactive.Statement.{statement}
 use Rattle.reader.proofs.weather.read_radioactive.Tie as tie
 
--- src/weather.rt:119:9
 fixed-at-requires : tie.Need-fixed-at-requires
 fixed-at-requires c κs = search needs
 
--- src/weather.rt:115:1
 returns : tie.Need-returns
 unfolding step
 returns c = record { says = λ o. c .fixed-at .ensures .says _ fixed-cld (atRadioactive o) _ refl refl; within = search needs }

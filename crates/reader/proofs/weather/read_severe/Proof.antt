@@ -11,18 +11,15 @@ use Rattle.reader.proofs.KindLaws.{is-yes, is-no, goes-fixed, dead-word
 use Rattle.reader.proofs.weather.read_severe.Statement.{statement}
 use Rattle.reader.proofs.weather.read_severe.Tie as tie
 
--- src/weather.rt:50:9
 code-at-requires : tie.Need-code-at-requires
 code-at-requires c κs = search needs
 
--- src/weather.rt:52:9
 returns : tie.Need-returns
 unfolding step
 returns c =
     let k = c .before .before .code-at .ensures in
     record { says = λ o. goes-fixed (search needs) k fixed-turb (c .if1 .taken) (atSevere o) _ (rw (is-yes (search needs) k fixed-turb (c .if1 .taken))); within = search needs }
 
--- src/weather.rt:59:9
 returns-2 : tie.Need-returns-2
 unfolding step
 returns-2 c =
@@ -33,7 +30,6 @@ returns-2 c =
       within = search needs;
     }
 
--- src/weather.rt:66:9
 returns-3 : tie.Need-returns-3
 unfolding step
 returns-3 c =
@@ -44,11 +40,9 @@ returns-3 c =
       within = search needs;
     }
 
--- src/weather.rt:72:9
 perhaps-at-requires : tie.Need-perhaps-at-requires
 perhaps-at-requires c κs = search needs
 
--- src/weather.rt:74:9
 returns-4 : tie.Need-returns-4
 unfolding step
 returns-4 c =
@@ -58,7 +52,6 @@ returns-4 c =
       within = search needs;
     }
 
--- src/weather.rt:46:1
 returns-5 : tie.Need-returns-5
 unfolding step
 returns-5 c =

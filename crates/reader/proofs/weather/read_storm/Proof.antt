@@ -8,30 +8,24 @@ use Rattle.reader.proofs.KindLaws.{is-yes, is-no, goes-fixed, dead-word
 use Rattle.reader.proofs.weather.read_storm.Statement.{statement}
 use Rattle.reader.proofs.weather.read_storm.Tie as tie
 
--- src/weather.rt:23:9
 code-at-requires : tie.Need-code-at-requires
 code-at-requires c κs = search needs
 
--- src/weather.rt:28:25
 mul-t6 : tie.Need-mul-t6
 mul-t6 c = search needs
 
--- src/weather.rt:28:25
 sub-t7 : tie.Need-sub-t7
 sub-t7 c = search needs
 
--- src/weather.rt:25:9
 returns : tie.Need-returns
 unfolding step
 returns c =
     let k = c .before .before .code-at .ensures in
     record { says = λ o. goes-fixed (search needs) k fixed-ts (c .if1 .taken) (atStorm o _) _ (rw (is-yes (search needs) k fixed-ts (c .if1 .taken))); within = search needs }
 
--- src/weather.rt:35:25
 mul-t8 : tie.Need-mul-t8
 mul-t8 c = search needs
 
--- src/weather.rt:32:9
 returns-2 : tie.Need-returns-2
 unfolding step
 returns-2 c =
@@ -42,7 +36,6 @@ returns-2 c =
       within = search needs;
     }
 
--- src/weather.rt:19:1
 returns-3 : tie.Need-returns-3
 unfolding step
 returns-3 c =

@@ -15,31 +15,24 @@ use Rattle.reader.proofs.KindLaws.{is-yes, is-no, goes-fixed, dead-word
 use Rattle.reader.proofs.weather.read_weather.Statement.{statement}
 use Rattle.reader.proofs.weather.read_weather.Tie as tie
 
--- src/weather.rt:131:9
 code-at-requires : tie.Need-code-at-requires
 code-at-requires c κs = search needs
 
--- src/weather.rt:132:22
 slice-aggregate-find : tie.Need-slice-aggregate-find
 slice-aggregate-find c = search needs
 
--- src/weather.rt:132:9
 find-requires : tie.Need-find-requires
 find-requires c κs = search needs
 
--- src/weather.rt:134:41
 add-read-storm : tie.Need-add-read-storm
 add-read-storm c = search needs
 
--- src/weather.rt:134:40
 cast-read-storm : tie.Need-cast-read-storm
 cast-read-storm c = search needs
 
--- src/weather.rt:134:9
 read-storm-requires : tie.Need-read-storm-requires
 read-storm-requires c κs = search needs
 
--- src/weather.rt:134:9
 returns : tie.Need-returns
 unfolding codeOf worthAfter allOf stormWords
 returns c =
@@ -53,11 +46,9 @@ other : (c : tie.Else1) → goodStorm (stormOf (wordFrom (c .before .before .bef
 unfolding codeOf worthAfter allOf stormWords
 other c = no-storm (c .before .before .before .code-at .ensures) (c .before .find .ensures) refl (c .if1 .left)
 
--- src/weather.rt:137:9
 read-severe-requires : tie.Need-read-severe-requires
 read-severe-requires c κs = search needs
 
--- src/weather.rt:137:9
 returns-2 : tie.Need-returns-2
 returns-2 c =
     let k = c .before .before .before .before .before .before .code-at .ensures in
@@ -69,11 +60,9 @@ returns-2 c =
       within = search needs;
     }
 
--- src/weather.rt:140:9
 read-heavy-requires : tie.Need-read-heavy-requires
 read-heavy-requires c κs = search needs
 
--- src/weather.rt:140:9
 returns-3 : tie.Need-returns-3
 returns-3 c =
     let k = c .before .before .before .before .before .before .before .before .code-at .ensures in
@@ -86,11 +75,9 @@ returns-3 c =
       within = search needs;
     }
 
--- src/weather.rt:143:9
 read-radioactive-requires : tie.Need-read-radioactive-requires
 read-radioactive-requires c κs = search needs
 
--- src/weather.rt:143:9
 returns-4 : tie.Need-returns-4
 returns-4 c =
     let k = c .before .before .before .before .before .before .before .before .before .before .code-at .ensures in
@@ -108,7 +95,6 @@ returns-4 c =
       within = search needs;
     }
 
--- src/weather.rt:127:1
 returns-5 : tie.Need-returns-5
 returns-5 c =
     let k = c .before .before .before .before .before .before .before .before .before .code-at .ensures in
