@@ -1,12 +1,12 @@
 -- One section after another: where the first was not refused, the run goes on in the second; where it was, that refusal is the whole's.
 -- Assumes nothing.
 use mathlib.Core.List.{List}
-use mathlib.Core.Path.{_≡_, refl, sym, _∙_}
+use mathlib.Core.Path.{_≡_, sym, _∙_}
 use Prim.Native.Nat.{ℕ}
 use borrow.Author.Tests.{eq-eqb, ne-eqb}
 use Rattle.message.specs.declared.Record.{Record}
 use Rattle.grammar.specs.Reads.{replyOf, acceptance, refusal}
-use Rattle.grammar.specs.Runs.{Ran, runAt}
+use Rattle.grammar.specs.Runs.{runAt}
 use Rattle.grammar.specs.Runs.Ran.{accepted, refused}
 use Rattle.grammar.specs.States.{State}
 use Rattle.reader.specs.Going.{goesOn, concluded, Goes, Ends}

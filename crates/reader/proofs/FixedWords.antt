@@ -155,22 +155,6 @@ pub fixed-stnr : FixedWord (bytes "STNR") 0x0153544e52
 unfolding codeOf allOf worthAfter same
 fixed-stnr = record { is-short = refl; has = refl; some = refl }
 
-pub fixed-n : FixedWord (bytes "N") 0x014e
-unfolding codeOf allOf worthAfter same
-fixed-n = record { is-short = refl; has = refl; some = refl }
-
-pub fixed-s : FixedWord (bytes "S") 0x0153
-unfolding codeOf allOf worthAfter same
-fixed-s = record { is-short = refl; has = refl; some = refl }
-
-pub fixed-e : FixedWord (bytes "E") 0x0145
-unfolding codeOf allOf worthAfter same
-fixed-e = record { is-short = refl; has = refl; some = refl }
-
-pub fixed-w : FixedWord (bytes "W") 0x0157
-unfolding codeOf allOf worthAfter same
-fixed-w = record { is-short = refl; has = refl; some = refl }
-
 pub fixed-fir : FixedWord (bytes "FIR") 0x01464952
 unfolding codeOf allOf worthAfter same
 fixed-fir = record { is-short = refl; has = refl; some = refl }

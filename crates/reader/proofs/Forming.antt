@@ -6,34 +6,27 @@ use mathlib.Core.Path.{_≡_, refl, ap, sym, _∙_, subst}
 use Prim.Native.Nat.{ℕ, _+_, _-_, _≤_, _<_}
 use native.Mathlib.Omega.{arith}
 use lib.Dec.{eqb}
-use lib.ListN.{length, replicate}
-use borrow.Author.Tests.{lt-ltb, le-ltb, le-leb, lt-leb, eq-eqb, ne-eqb}
-use Rattle.lists.specs.Lists.{allOf, indexOf, indexFrom, part, same}
+use lib.ListN.{length}
+use borrow.Author.Tests.{lt-ltb, le-ltb, le-leb, eq-eqb, ne-eqb}
+use Rattle.lists.specs.Lists.{allOf, indexOf, same}
 use Rattle.lists.specs.Text.{bytes}
-use Rattle.lists.proofs.Choice.{by, clash, both-true, both-false-right}
+use Rattle.lists.proofs.Choice.{by, clash, both-true}
 use Rattle.lists.proofs.Lists.{same-refl, same-is}
-use Rattle.words.specs.Bytes.{blank}
-use Rattle.words.specs.Words.{spanOf}
 use Rattle.figures.specs.Keywords.{short, codeOf, wordIn}
 use Rattle.figures.proofs.Keywords.{find-word}
 use Rattle.figures.proofs.Kept.{reads-spelled}
 use Rattle.keywords.specs.Keywords.{shortKeywords, longKeywords, keywords, keywordOf, goodKeyword, spellKeyword}
 use Rattle.keywords.proofs.KeywordLaws.{keyword-reads}
-use Rattle.names.specs.Names.{inName}
-use Rattle.message.specs.Limits.{mountainLimit}
 use Rattle.message.specs.Names.{noName}
-use Rattle.message.specs.declared.Record.{Record}
-use Rattle.grammar.specs.Records.{testOf}
-use Rattle.grammar.specs.Runs.{runAt}
-use Rattle.grammar.specs.Runs.Ran.{accepted, refused}
+use Rattle.grammar.specs.Runs.Ran.{refused}
 use Rattle.grammar.specs.States.{ToArea}
-use Rattle.grammar.specs.States.State.{atForm, atStorm, atSevere, atIce, atAsh, atEruption, atMoreMountain, atPosition, atEnd}
-use Rattle.grammar.specs.Steps.{goesIf, grown, goneOn, stormWords, stormOf, goodStorm, stepWeather, step}
+use Rattle.grammar.specs.States.State.{atForm, atStorm, atSevere, atIce, atAsh, atEruption, atPosition}
+use Rattle.grammar.specs.Steps.{goesIf, stormWords, stormOf, goodStorm, stepWeather, step}
 use Rattle.reader.specs.Going.{Goes, wordFrom}
 use Rattle.reader.specs.Kinds.{Fixed, Perhaps, CodeAt}
 use Rattle.reader.proofs.Chains.{on}
 use Rattle.reader.proofs.FixedWords.{fixed-turb, fixed-ice, fixed-cld, fixed-mt, fixed-psn}
-use Rattle.reader.proofs.Going.{dead-at, done-at, some-word}
+use Rattle.reader.proofs.Going.{some-word}
 use Rattle.reader.proofs.KindLaws.{goes-word, is-yes, is-no, goes-fixed}
 
 -- A keyword, by its number.

@@ -13,21 +13,19 @@ use mathlib.Core.Logic._⊎_.{inl, inr}
 use Rattle.lists.specs.Lists.{part, same}
 use Rattle.lists.proofs.Choice.{clash}
 use Rattle.lists.proofs.Lists.{length-part}
-use Rattle.words.specs.Words.{spanOf}
 use Rattle.figures.specs.Keywords.{codeOf}
 use Rattle.figures.specs.Reads.{Reads}
 use Rattle.figures.proofs.Keywords.{same-code}
-use Rattle.message.specs.declared.Record.{Record}
 use Rattle.grammar.specs.Numbers.{numberOf}
-use Rattle.grammar.specs.Runs.{Ran, runAt}
+use Rattle.grammar.specs.Runs.{runAt}
 use Rattle.grammar.specs.Runs.Ran.{refused}
 use Rattle.grammar.specs.States.{State}
-use Rattle.grammar.specs.States.Move.{goes, done, dead}
+use Rattle.grammar.specs.States.Move.{goes, dead}
 use Rattle.grammar.specs.States.State.{atEnd}
-use Rattle.grammar.specs.Steps.{goesIf, step}
+use Rattle.grammar.specs.Steps.{step}
 use Rattle.grammar.proofs.NumberLaws.{number-range}
-use Rattle.reader.specs.Going.{goesOn, concluded, Goes, Ends, wordFrom, WordAt}
-use Rattle.reader.specs.Kinds.{Required, FixedWord, Fixed, Perhaps, CodeAt, EndAt, Concludes}
+use Rattle.reader.specs.Going.{goesOn, Goes, wordFrom, WordAt}
+use Rattle.reader.specs.Kinds.{Required, FixedWord, Fixed, Perhaps, CodeAt, EndAt}
 use Rattle.reader.proofs.Chains.{off-ends}
 use Rattle.reader.proofs.Going.{dead-at, same-at, goes-at, done-at, some-word}
 

@@ -6,20 +6,17 @@ use mathlib.Core.List.{List, [], _∷_, _++_, append-assoc}
 use mathlib.Core.Path.{_≡_, refl, ap, sym, _∙_}
 use Prim.Native.Nat.{ℕ, suc, _+_, _-_, _≤_, _<_}
 use native.Mathlib.Omega.{arith}
-use lib.Dec.{eqb, ltb, leb}
+use lib.Dec.{ltb, leb}
 use lib.ListN.{length, getD, set, replicate, length-append, List·getD-append}
 use lib.Seq.{set-append-seam}
 use borrow.Author.Tests.{ltb-true}
 use Rattle.lists.specs.Choice.{pick, both, either}
 use Rattle.lists.specs.Lists.{part}
-use Rattle.lists.proofs.Choice.{by, clash, both-true, both-false-left, both-false-right}
-use Rattle.figures.specs.Reads.{Reads}
-use Rattle.coordinates.specs.Coordinates.{Axis, northSouth, eastWest, coordinateOf, spellCoordinate, goodCoordinate, noCoordinate}
+use Rattle.lists.proofs.Choice.{by, both-true, both-false-left, both-false-right}
+use Rattle.coordinates.specs.Coordinates.{northSouth, eastWest, coordinateOf, goodCoordinate}
 use Rattle.coordinates.specs.Points.{sameValue, samePoint, noPoint}
 use Rattle.coordinates.specs.declared.Coordinate.{Coordinate}
 use Rattle.coordinates.specs.declared.Point.{Point}
-use Rattle.coordinates.proofs.Axes.{latitude-reads, longitude-reads}
-use Rattle.coordinates.proofs.Ways.{no-length}
 use Rattle.message.specs.Limits.{leastPoints, mostPoints}
 use Rattle.message.specs.declared.Extent.{Extent}
 use Rattle.message.specs.declared.Location.the-variants.{Outline}
@@ -37,7 +34,7 @@ use Rattle.reader.proofs.Tells.{latitude-told, longitude-told}
 use Rattle.reader.proofs.Chains.{off}
 use Rattle.reader.proofs.Chains as chains
 use Rattle.reader.proofs.Going.{some-word}
-use Rattle.reader.proofs.KindLaws.{part-is, goes-word, dead-word, required-yes, required-no, field-yes, field-no}
+use Rattle.reader.proofs.KindLaws.{part-is, goes-word, dead-word, required-yes, required-no}
 use Rattle.reader.proofs.Sides.{on-step, there-step, nowhere-step, required-on}
 
 module _ {first : Point} {count : ℕ} where

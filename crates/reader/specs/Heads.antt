@@ -1,7 +1,6 @@
 -- The sections up to the area, as equations of runs. What was read before is for all values.
 -- Assumes nothing.
 use mathlib.Core.List.{List}
-use mathlib.Core.Path.{_≡_}
 use Prim.Native.Nat.{ℕ, _≤_}
 use lib.ListN.{length}
 use Rattle.groups.specs.declared.Group.{Group}

@@ -73,14 +73,6 @@ pub(crate) const MOV: u64 = 0x01_4d_4f_56;
 
 pub(crate) const STNR: u64 = 0x01_53_54_4e_52;
 
-pub(crate) const N: u64 = 0x01_4e;
-
-pub(crate) const S: u64 = 0x01_53;
-
-pub(crate) const E: u64 = 0x01_45;
-
-pub(crate) const W: u64 = 0x01_57;
-
 pub(crate) const FIR: u64 = 0x01_46_49_52;
 
 pub(crate) const CTA: u64 = 0x01_43_54_41;

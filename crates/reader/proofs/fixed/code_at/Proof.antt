@@ -3,10 +3,6 @@ use borrow.Author.Needs.{needs}
 use Rattle.reader.proofs.KindLaws.{code-at-is}
 use Rattle.reader.proofs.fixed.code_at.Statement.{statement}
 use Rattle.reader.proofs.fixed.code_at.Tie as tie
-use Rattle.reader.proofs.fixed.code_at.Reads as reads
-use Rattle.reader.proofs.fixed.code_at.Lts as lts
-use Rattle.figures.proofs.code.Reads as code-reads
-use Rattle.reader.proofs.fixed.word.Reads as word-reads
 
 word-requires : tie.Need-word-requires
 word-requires c κs = search needs

@@ -3,9 +3,6 @@ use borrow.Author.Needs.{needs}
 use Rattle.reader.proofs.KindLaws.{perhaps-yes, perhaps-no}
 use Rattle.reader.proofs.fixed.perhaps_at.Statement.{statement}
 use Rattle.reader.proofs.fixed.perhaps_at.Tie as tie
-use Rattle.reader.proofs.fixed.perhaps_at.Reads as reads
-use Rattle.reader.proofs.fixed.perhaps_at.Lts as lts
-use Rattle.reader.proofs.fixed.code_at.Reads as code-at-reads
 
 code-at-requires : tie.Need-code-at-requires
 code-at-requires c κs = search needs

@@ -3,9 +3,6 @@ use borrow.Author.Needs.{needs}
 use Rattle.reader.proofs.Going.{word-at-within}
 use Rattle.reader.proofs.fixed.word.Statement.{statement}
 use Rattle.reader.proofs.fixed.word.Tie as tie
-use Rattle.reader.proofs.fixed.word.Reads as reads
-use Rattle.reader.proofs.fixed.word.Lts as lts
-use Rattle.words.proofs.word_at.Reads as word-at-reads
 
 word-at-requires : tie.Need-word-at-requires
 word-at-requires c κs = search needs

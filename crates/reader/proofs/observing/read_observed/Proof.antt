@@ -11,10 +11,6 @@ use Rattle.reader.proofs.Chains.{on}
 use Rattle.reader.proofs.FixedWords.{fixed-at}
 use Rattle.reader.proofs.observing.read_observed.Statement.{statement}
 use Rattle.reader.proofs.observing.read_observed.Tie as tie
-use Rattle.reader.proofs.observing.read_observed.Reads as reads
-use Rattle.reader.proofs.observing.read_observed.Lts as lts
-use Rattle.reader.proofs.fixed.perhaps_at.Reads as perhaps-at-reads
-use Rattle.reader.proofs.kinds.time_at.Reads as time-at-reads
 
 perhaps-at-requires : tie.Need-perhaps-at-requires
 perhaps-at-requires c κs = search needs

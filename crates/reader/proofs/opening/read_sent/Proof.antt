@@ -6,11 +6,6 @@ use Rattle.grammar.specs.States.State.{atDesignator, atCentre, atSent, atCorrec
 use Rattle.reader.proofs.Chains.{on, off}
 use Rattle.reader.proofs.opening.read_sent.Statement.{statement}
 use Rattle.reader.proofs.opening.read_sent.Tie as tie
-use Rattle.reader.proofs.opening.read_sent.Reads as reads
-use Rattle.reader.proofs.opening.read_sent.Lts as lts
-use Rattle.reader.proofs.kinds.designator_at.Reads as designator-at-reads
-use Rattle.reader.proofs.kinds.group_at.Reads as group-at-reads
-use Rattle.reader.proofs.kinds.letters_at.Reads as letters-at-reads
 
 designator-at-requires : tie.Need-designator-at-requires
 designator-at-requires c κs = search needs

@@ -7,9 +7,6 @@ use Rattle.reader.proofs.FixedWords.{fixed-ds, fixed-ss}
 use Rattle.reader.proofs.KindLaws.{is-yes, is-no, goes-fixed, dead-word}
 use Rattle.reader.proofs.weather.read_heavy.Statement.{statement}
 use Rattle.reader.proofs.weather.read_heavy.Tie as tie
-use Rattle.reader.proofs.weather.read_heavy.Reads as reads
-use Rattle.reader.proofs.weather.read_heavy.Lts as lts
-use Rattle.reader.proofs.fixed.code_at.Reads as code-at-reads
 
 code-at-requires : tie.Need-code-at-requires
 code-at-requires c κs = search needs
