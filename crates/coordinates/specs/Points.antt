@@ -21,7 +21,7 @@ sameValue c d = eqb (apart (signedOf c) (signedOf d)) 0
 
 unfoldable pub samePoint : Point → Point → Bool
 samePoint p q =
-    both (eqb (apart (signedOf (p .latitude)) (signedOf (q .latitude))) 0)
+    both (sameValue (p .latitude) (q .latitude))
     (either (eqb (apart (signedOf (p .longitude)) (signedOf (q .longitude))) 0) (eqb (apart (signedOf (p .longitude)) (signedOf (q .longitude))) 21600))
 
 unfoldable pub goodPoint : Point → Bool

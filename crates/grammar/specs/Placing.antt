@@ -9,8 +9,8 @@ use lib.ListN.{length, getD}
 use Rattle.lists.specs.Choice.{pick, both, either}
 use Rattle.lists.specs.Lists.{same}
 use Rattle.lists.specs.Text.{bytes}
-use Rattle.coordinates.specs.Coordinates.{Axis, northSouth, eastWest, coordinateOf, goodCoordinate, signedOf}
-use Rattle.coordinates.specs.Points.{apart, samePoint}
+use Rattle.coordinates.specs.Coordinates.{Axis, northSouth, eastWest, coordinateOf, goodCoordinate}
+use Rattle.coordinates.specs.Points.{sameValue, samePoint}
 use Rattle.coordinates.specs.declared.Coordinate.{Coordinate}
 use Rattle.coordinates.specs.declared.Point.{Point}
 use Rattle.message.specs.Limits.{leastPoints, mostPoints, cta}
@@ -49,7 +49,7 @@ closes (first ∷ ps) p = samePoint first p
 -- the latitude is that of point 1
 abbrev pub sameLatitude : List Point → Coordinate → Bool
 sameLatitude [] c = false
-sameLatitude (first ∷ ps) c = eqb (apart (signedOf (first .latitude)) (signedOf c)) 0
+sameLatitude (first ∷ ps) c = sameValue (first .latitude) c
 
 -- one more point still leaves room for another: "4 to 7 points"
 abbrev pub roomAfter : List Point → Bool

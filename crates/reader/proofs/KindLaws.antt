@@ -135,7 +135,7 @@ module _ {t : List ℕ} {at start end code : ℕ} (h : at ≤ length t) (c : Cod
   }
 
 -- the `=`, the word of no byte
-word-length : {t : List ℕ} {at start end : ℕ} → WordAt t at start end → length (wordFrom t at) ≡ end - start
+pub word-length : {t : List ℕ} {at start end : ℕ} → WordAt t at start end → length (wordFrom t at) ≡ end - start
 word-length {t} {at} {start} {end} w = ap (λ (v : List ℕ). length v) (sym (part-is w)) ∙ length-part start end t (w .ordered) (w .within)
 
 some-byte : (w : List ℕ) → (length w ≡ 0 → ⊥) → same w [] ≡ false

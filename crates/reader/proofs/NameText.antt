@@ -14,7 +14,6 @@ use borrow.Author.Tests.{le-leb, lt-leb, leb-true}
 use Rattle.lists.specs.Choice.{pick}
 use Rattle.lists.specs.Lists.{part}
 use Rattle.lists.proofs.Choice.{by, clash, both-left, both-right, both-true, both-false-left, both-false-right, pick-true, pick-false}
-use Rattle.lists.proofs.Lists.{length-part}
 use Rattle.words.specs.Words.{spanOf}
 use Rattle.names.specs.Names.{closingOf, goodClosing, nameWord, inName}
 use Rattle.message.specs.Limits.{nameBytes, mountainLimit}
@@ -34,7 +33,7 @@ use Rattle.reader.specs.Going.{Goes, wordFrom, WordAt}
 use Rattle.reader.specs.Naming.{GrownSays, NameBegins, NameGoesOn, TakesName, NameSays}
 use Rattle.reader.proofs.Chains.{on}
 use Rattle.reader.proofs.Going.{goes-at, some-word, word-at-within}
-use Rattle.reader.proofs.KindLaws.{dead-word, part-is}
+use Rattle.reader.proofs.KindLaws.{dead-word, part-is, word-length}
 
 -- A word put into bytes.
 
@@ -143,12 +142,9 @@ grown-length : (name : Name) (x w : List ℕ) → name ≡ nameOf x → length (
 grown-length name x w is = rw is (length-append x (32 ∷ w) ∙ omega arith)
 
 module _ {t : List ℕ} {at start end : ℕ} (k : WordAt t at start end) where
-  word-length : length (wordFrom t at) ≡ end - start
-  word-length = ap length (sym (part-is k)) ∙ length-part start end t (k .ordered) (k .within)
-
   past-word : 0 < length (wordFrom t at) → at < end
   unfolding spanOf
-  past-word some = let starts = k .starts in omega (arith, word-length)
+  past-word some = let starts = k .starts in omega (arith, word-length k)
 
   tested : (m : Bool) {r b : Bool} → r ≡ inName m (part start end t) → r ≡ b → inName m (wordFrom t at) ≡ b
   tested m e f = sym (e ∙ ap (inName m) (part-is k)) ∙ f

@@ -29,7 +29,8 @@ use Rattle.grammar.specs.States.Placing.{atLatitude, atLongitude, atDash}
 use Rattle.grammar.specs.States.State.{atPlace}
 use Rattle.grammar.specs.Steps.{after}
 use Rattle.reader.specs.Going.{Goes, wordFrom, WordAt}
-use Rattle.reader.specs.Outlines.{Points, FollowsSays, ClosesSays, LatitudeSays, LongitudeSays, PointSays, OutlineSays}
+use Rattle.reader.specs.Outlines.{Points, FollowsSays, ClosesSays, LatitudeSays, LongitudeSays, PointSays}
+use Rattle.reader.specs.Locations.{LocatedSays}
 use Rattle.reader.proofs.Tells.{latitude-told, longitude-told}
 use Rattle.reader.proofs.Chains.{off}
 use Rattle.reader.proofs.Chains as chains
@@ -208,7 +209,7 @@ module _ {t : List ℕ} {at refusal : ℕ} {points : List Point} {count place : 
     more = filled-more p (g .array) (g .few)
 
     -- refused, whether or not it would have closed the outline
-    pub gone-refused : (number ≡ 0 → ⊥) → (e : Extent) → OutlineSays refusal t at number place′ e
+    pub gone-refused : (number ≡ 0 → ⊥) → (e : Extent) → LocatedSays (atLatitude []) refusal t at number place′ e
     gone-refused z e = record {
       says = λ site k. chains.on (g .says site k) refl
           (by closed (λ y. off (n .closing y site (g .read) k so-far) z) (λ y. off (n .going y site (g .read) k so-far) z));
@@ -225,7 +226,7 @@ module _ {t : List ℕ} {at refusal : ℕ} {points : List Point} {count place : 
         within = n .within;
       }
 
-      pub gone-over : closed ≡ true → OutlineSays refusal t at 0 place′ (record { location = Outline (count + 1); points = set points count p })
+      pub gone-over : closed ≡ true → LocatedSays (atLatitude []) refusal t at 0 place′ (record { location = Outline (count + 1); points = set points count p })
       gone-over y = record {
         says = λ site k. chains.on (g .says site k) refl (rw (z, filled-outline more) at (n .closing y site (g .read) k so-far));
         within = n .within;

@@ -8,10 +8,8 @@ use Rattle.lists.specs.Choice.{pick, either}
 use Rattle.lists.specs.Lists.{same}
 use Rattle.figures.specs.Keywords.{codeOf}
 use Rattle.message.specs.declared.Extent.{Extent}
-use Rattle.message.specs.declared.Side.{Side}
 use Rattle.grammar.specs.Numbers.{locationPart}
-use Rattle.grammar.specs.States.{Site}
-use Rattle.grammar.specs.States.Placing.{atLocation, atLatitudeOf, atAnd, atSecondBound, atLongitudeOf, atEntire}
+use Rattle.grammar.specs.States.{Site, Placing}
 use Rattle.grammar.specs.States.State.{atPlace}
 use Rattle.grammar.specs.Steps.{closingAt, after}
 use Rattle.reader.specs.Going.{Goes}
@@ -23,34 +21,12 @@ sideIn plus minus w = pick (either (same w (plus ∷ [])) (same w (minus ∷ [])
 pub record SideSays (code plus minus letter : ℕ) : Type 0 where
   pub says : (w : List ℕ) → code ≡ codeOf w → letter ≡ sideIn plus minus w
 
--- after `E` or `W`, with the latitude bound before it
-pub record BoundSays (north : Side) (side refusal : ℕ) (t : List ℕ) (at number place : ℕ) (e : Extent) : Type 0 where
-  pub says : (site : Site) → locationPart site ≡ refusal
-      → Goes (atPlace site (atLongitudeOf north side)) t at number place (after site e)
+-- from that place of a location on, at a site whose location is refused by that number
+pub record LocatedSays (from : Placing) (refusal : ℕ) (t : List ℕ) (at number place : ℕ) (e : Extent) : Type 0 where
+  pub says : (site : Site) → locationPart site ≡ refusal → Goes (atPlace site from) t at number place (after site e)
   pub within : place ≤ length t
 
--- after `AND`
-pub record SecondSays (north : Side) (refusal : ℕ) (t : List ℕ) (at number place : ℕ) (e : Extent) : Type 0 where
-  pub says : (site : Site) → locationPart site ≡ refusal → Goes (atPlace site (atSecondBound north)) t at number place (after site e)
-  pub within : place ≤ length t
-
--- after a latitude bound
-pub record AfterNorthSays (north : Side) (refusal : ℕ) (t : List ℕ) (at number place : ℕ) (e : Extent) : Type 0 where
-  pub says : (site : Site) → locationPart site ≡ refusal → Goes (atPlace site (atAnd north)) t at number place (after site e)
-  pub within : place ≤ length t
-
--- after `N` or `S`
-pub record NorthSays (side refusal : ℕ) (t : List ℕ) (at number place : ℕ) (e : Extent) : Type 0 where
-  pub says : (site : Site) → locationPart site ≡ refusal → Goes (atPlace site (atLatitudeOf side)) t at number place (after site e)
-  pub within : place ≤ length t
-
--- after `ENTIRE`
-pub record EntireSays (closing refusal : ℕ) (t : List ℕ) (at number place : ℕ) (e : Extent) : Type 0 where
-  pub says : (site : Site) → closingAt site ≡ closing → locationPart site ≡ refusal
-      → Goes (atPlace site atEntire) t at number place (after site e)
-  pub within : place ≤ length t
-
-pub record LocationSays (closing refusal : ℕ) (t : List ℕ) (at number place : ℕ) (e : Extent) : Type 0 where
-  pub says : (site : Site) → closingAt site ≡ closing → locationPart site ≡ refusal
-      → Goes (atPlace site atLocation) t at number place (after site e)
+-- the same where the closing word of the area tells: "`ENTIRE CTA` exactly when the area is a CTA"
+pub record LocatedInSays (closing : ℕ) (from : Placing) (refusal : ℕ) (t : List ℕ) (at number place : ℕ) (e : Extent) : Type 0 where
+  pub says : (site : Site) → closingAt site ≡ closing → locationPart site ≡ refusal → Goes (atPlace site from) t at number place (after site e)
   pub within : place ≤ length t

@@ -11,7 +11,6 @@ use Rattle.coordinates.specs.Points.{noPoint}
 use Rattle.coordinates.specs.declared.Coordinate.{Coordinate}
 use Rattle.coordinates.specs.declared.Point.{Point}
 use Rattle.message.specs.Limits.{mostPoints}
-use Rattle.message.specs.declared.Extent.{Extent}
 use Rattle.grammar.specs.Numbers.{locationPart}
 use Rattle.grammar.specs.Placing.{closes, mayFollow}
 use Rattle.grammar.specs.Records.{outlined}
@@ -56,8 +55,4 @@ pub record PointSays (first : Point) (count refusal : ℕ) (t : List ℕ) (at nu
   pub going : closed ≡ false → (site : Site) (ps : List Point) → locationPart site ≡ refusal → Points first count ps
       → Goes (atPlace site (atLatitude ps)) t at number place (atPlace site (atLatitude (ps ++ (p ∷ []))))
   pub room : number ≡ 0 → closed ≡ false → count + 1 < mostPoints
-  pub within : place ≤ length t
-
-pub record OutlineSays (refusal : ℕ) (t : List ℕ) (at number place : ℕ) (e : Extent) : Type 0 where
-  pub says : (site : Site) → locationPart site ≡ refusal → Goes (atPlace site (atLatitude [])) t at number place (after site e)
   pub within : place ≤ length t

@@ -9,26 +9,14 @@ use Rattle.message.specs.Limits.{eruption}
 use Rattle.message.specs.declared.Name.{Name}
 use Rattle.message.specs.declared.Volcano.{Volcano}
 use Rattle.grammar.specs.Placing.{is}
-use Rattle.grammar.specs.States.{ToArea}
-use Rattle.grammar.specs.States.State.{atForm, atStorm, atSevere, atHeavy, atRadioactive, atAsh, atEruption, atPosition, atVolcanoAsh, atObservation}
+use Rattle.grammar.specs.States.{ToArea, State}
+use Rattle.grammar.specs.States.State.{atForm, atAsh, atEruption, atPosition, atVolcanoAsh, atObservation}
 use Rattle.grammar.specs.Steps.{goesIf, weather, stepWeather, step}
 use Rattle.reader.specs.Going.{Goes, wordFrom}
 
--- after a storm's first word
-pub record StormSays (storm : ℕ) (t : List ℕ) (at number place phenomenon : ℕ) : Type 0 where
-  pub says : (o : ToArea) → Goes (atStorm o storm) t at number place (atObservation (weather o phenomenon))
-  pub within : place ≤ length t
-
-pub record SevereSays (t : List ℕ) (at number place phenomenon : ℕ) : Type 0 where
-  pub says : (o : ToArea) → Goes (atSevere o) t at number place (atObservation (weather o phenomenon))
-  pub within : place ≤ length t
-
-pub record HeavySays (t : List ℕ) (at number place phenomenon : ℕ) : Type 0 where
-  pub says : (o : ToArea) → Goes (atHeavy o) t at number place (atObservation (weather o phenomenon))
-  pub within : place ≤ length t
-
-pub record RadioactiveSays (t : List ℕ) (at number place phenomenon : ℕ) : Type 0 where
-  pub says : (o : ToArea) → Goes (atRadioactive o) t at number place (atObservation (weather o phenomenon))
+-- the rest of a WS's phenomenon, after its first word
+pub record WeatherFrom (from : ToArea → State) (t : List ℕ) (at number place phenomenon : ℕ) : Type 0 where
+  pub says : (o : ToArea) → Goes (from o) t at number place (atObservation (weather o phenomenon))
   pub within : place ≤ length t
 
 -- the phenomenon of a WS, where the word is judged as such

@@ -1,5 +1,4 @@
 // Area: its four letters, a name, and the closing word.
-ghost use mathlib.Core.Path.{_≡_};
 ghost use Prim.Native.Nat.{_≤_};
 ghost use lib.ListN.{length};
 ghost use Rattle.reader.specs.Heads.{AreaSays};

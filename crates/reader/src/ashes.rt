@@ -1,5 +1,4 @@
 // Phenomenon of a WV: VA CLD, or VA ERUPTION, perhaps MT and a name, PSN, a point, VA CLD.
-ghost use mathlib.Core.Path.{_≡_};
 ghost use Prim.Native.Nat.{_≤_};
 ghost use lib.ListN.{length};
 ghost use Rattle.reader.specs.Phenomena.{MountainSays, PositionSays, CloudSays, EruptionSays, AfterAshSays, AshSays};
@@ -14,6 +13,7 @@ use crate::fixed::long_at;
 use crate::fixed::perhaps_at;
 use crate::kinds::latitude_at;
 use crate::kinds::longitude_at;
+use crate::limits;
 use crate::naming::NameRead;
 use crate::naming::read_name;
 use coordinates::Point;
@@ -31,7 +31,7 @@ struct EruptionRead {
     pub volcano: Volcano,
 }
 
-pub(crate) struct AshRead {
+pub(crate) struct PhenomenonRead {
     pub number: u8,
     pub place: usize,
     pub phenomenon: u8,
@@ -53,7 +53,7 @@ fn read_mountain(text: &[u8], at: usize) -> NameRead
             name: none,
         };
     }
-    let n = read_name(text, mount.place, true, 30, 7);
+    let n = read_name(text, mount.place, true, limits::MOUNTAIN_LIMIT, 7);
     if n.number != 0 {
         return n;
     }
@@ -142,23 +142,23 @@ fn read_eruption(text: &[u8], at: usize) -> EruptionRead
 }
 
 // What follows the first VA.
-fn read_after_ash(text: &[u8], at: usize) -> AshRead
+fn read_after_ash(text: &[u8], at: usize) -> PhenomenonRead
     requires { ⌜ at ≤ length (now text) ⌝ }
     ensures { λ r. ⌜ AfterAshSays (now (text .entry)) at (r .number) (r .place) (r .phenomenon) (r .volcano) ⌝ }
 {
     let k = code_at(text, at);
     let none = no_volcano();
     if k.code == codes::CLD {
-        return AshRead {
+        return PhenomenonRead {
             number: 0,
             place: k.end,
-            phenomenon: 16,
+            phenomenon: limits::ASH_CLOUD,
             volcano: none,
         };
     }
-    let erupts = long_at(text, at, 42, 7);
+    let erupts = long_at(text, at, codes::ERUPTION, 7);
     if erupts.number != 0 {
-        return AshRead {
+        return PhenomenonRead {
             number: erupts.number,
             place: erupts.place,
             phenomenon: 0,
@@ -167,22 +167,22 @@ fn read_after_ash(text: &[u8], at: usize) -> AshRead
     }
     let e = read_eruption(text, erupts.place);
     let volcano = e.volcano;
-    AshRead {
+    PhenomenonRead {
         number: e.number,
         place: e.place,
-        phenomenon: 17,
+        phenomenon: limits::ASH_ERUPTION,
         volcano,
     }
 }
 
-pub(crate) fn read_ash(text: &[u8], at: usize) -> AshRead
+pub(crate) fn read_ash(text: &[u8], at: usize) -> PhenomenonRead
     requires { ⌜ at ≤ length (now text) ⌝ }
     ensures { λ r. ⌜ AshSays (now (text .entry)) at (r .number) (r .place) (r .phenomenon) (r .volcano) ⌝ }
 {
     let ash = fixed_at(text, at, codes::VA, 7);
     if ash.number != 0 {
         let none = no_volcano();
-        return AshRead {
+        return PhenomenonRead {
             number: ash.number,
             place: ash.place,
             phenomenon: 0,

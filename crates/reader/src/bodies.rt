@@ -1,5 +1,4 @@
 // After the area: a test, a cancellation or a report, and the `=`.
-ghost use mathlib.Core.Path.{_≡_};
 ghost use Prim.Native.Nat.{_≤_};
 ghost use lib.ListN.{length};
 ghost use Rattle.reader.specs.Bodies.{TestBodySays, LongTestBodySays, CancellationBodySays, BodySays};

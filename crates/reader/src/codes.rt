@@ -84,3 +84,8 @@ pub(crate) const STORMS: [u64; 4] = [
     0x01_46_52_51,
     0x01_53_51_4c,
 ];
+
+// The two words of more than seven bytes, by their numbers among the keywords.
+pub(crate) const ERUPTION: u8 = 42;
+
+pub(crate) const DISREGARD: u8 = 43;

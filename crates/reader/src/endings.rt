@@ -1,5 +1,4 @@
 // Ending: MOV, a compass point and a speed, or STNR, then the intensity; or, in WS only, the intensity and a forecast.
-ghost use mathlib.Core.Path.{_≡_};
 ghost use Prim.Native.Nat.{_≤_};
 ghost use lib.ListN.{length};
 ghost use Rattle.groups.specs.Groups.{timeOf};
@@ -15,6 +14,7 @@ use crate::kinds::TimeRead;
 use crate::kinds::compass_at;
 use crate::kinds::intensity_at;
 use crate::kinds::speed_at;
+use crate::limits;
 use crate::locating::read_location;
 use groups::Time;
 use groups::good_time;
@@ -22,7 +22,6 @@ use groups::time_word;
 use lists::both;
 use message::Ending;
 use message::Extent;
-use motions::Speed;
 
 pub(crate) struct EndingRead {
     pub number: u8,
@@ -176,7 +175,7 @@ pub(crate) fn read_ending(text: &[u8], at: usize, kind: u8, closing: u8, until: 
             forecast: none,
         };
     }
-    if kind == 2 {
+    if kind == limits::WS {
         return read_forecast(text, at, closing, until);
     }
     let none = no_extent();

@@ -1,5 +1,4 @@
 // First line: four letters (unit), SIGMET, sequence, VALID, group/group, four letters and a hyphen.
-ghost use mathlib.Core.Path.{_≡_};
 ghost use Prim.Native.Nat.{_≤_};
 ghost use lib.ListN.{length};
 ghost use Rattle.reader.specs.Heads.{UnitSays, ValidSays, LineSays};

@@ -1,5 +1,4 @@
 // One required word of each kind. A word that is not of the kind is refused by the number given, and its value is not used.
-ghost use mathlib.Core.Path.{_≡_};
 ghost use Prim.Native.Nat.{_≤_};
 ghost use lib.ListN.{length};
 ghost use Rattle.figures.specs.Letters.{lettersOf, goodLetters};

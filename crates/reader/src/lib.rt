@@ -16,6 +16,7 @@ mod first_line;
 mod fixed;
 mod kinds;
 mod levelling;
+mod limits;
 mod locating;
 mod naming;
 mod observing;

@@ -3,7 +3,8 @@ ghost use mathlib.Core.Path.{_≡_};
 ghost use Prim.Native.Nat.{_≤_, _<_};
 ghost use lib.ListN.{length};
 ghost use Rattle.grammar.specs.Records.{bounded as boundedBy};
-ghost use Rattle.reader.specs.Locations.{SideSays, BoundSays, SecondSays, AfterNorthSays, NorthSays, EntireSays, LocationSays};
+ghost use Rattle.grammar.specs.States.Placing.{atLocation, atLatitudeOf, atAnd, atSecondBound, atLongitudeOf, atEntire};
+ghost use Rattle.reader.specs.Locations.{SideSays, LocatedSays, LocatedInSays};
 use crate::codes;
 use crate::empties::no_extent;
 use crate::empties::no_side;
@@ -12,6 +13,7 @@ use crate::fixed::fixed_at;
 use crate::fixed::perhaps_at;
 use crate::kinds::latitude_at;
 use crate::kinds::longitude_at;
+use crate::limits;
 use crate::outlining::read_outline;
 use message::Bound;
 use message::Extent;
@@ -55,7 +57,7 @@ fn bounded(latitude: Side, longitude: Side) -> Extent
 // OF and a longitude, after `E` or `W`; a latitude bound may stand before it.
 fn read_east(text: &[u8], at: usize, north: Side, side: u8, refusal: u8) -> LocationRead
     requires { ⌜ at ≤ length (now text) ⌝ }
-    ensures { λ r. ⌜ BoundSays north side refusal (now (text .entry)) at (r .number) (r .place) (r .extent) ⌝ }
+    ensures { λ r. ⌜ LocatedSays (atLongitudeOf north side) refusal (now (text .entry)) at (r .number) (r .place) (r .extent) ⌝ }
 {
     let of = fixed_at(text, at, codes::OF, refusal);
     if of.number != 0 {
@@ -80,10 +82,10 @@ fn read_east(text: &[u8], at: usize, north: Side, side: u8, refusal: u8) -> Loca
 // The longitude bound after AND.
 fn read_second(text: &[u8], at: usize, north: Side, refusal: u8) -> LocationRead
     requires { ⌜ at ≤ length (now text) ⌝ }
-    ensures { λ r. ⌜ SecondSays north refusal (now (text .entry)) at (r .number) (r .place) (r .extent) ⌝ }
+    ensures { λ r. ⌜ LocatedSays (atSecondBound north) refusal (now (text .entry)) at (r .number) (r .place) (r .extent) ⌝ }
 {
     let k = code_at(text, at);
-    let side = side_letter(k.code, 69, 87);
+    let side = side_letter(k.code, b'E', b'W');
     if side == 0 {
         let none = no_extent();
         return LocationRead {
@@ -98,7 +100,7 @@ fn read_second(text: &[u8], at: usize, north: Side, refusal: u8) -> LocationRead
 // After a latitude bound: perhaps AND and a longitude bound.
 fn read_after_north(text: &[u8], at: usize, north: Side, refusal: u8) -> LocationRead
     requires { ⌜ at ≤ length (now text) ⌝ }
-    ensures { λ r. ⌜ AfterNorthSays north refusal (now (text .entry)) at (r .number) (r .place) (r .extent) ⌝ }
+    ensures { λ r. ⌜ LocatedSays (atAnd north) refusal (now (text .entry)) at (r .number) (r .place) (r .extent) ⌝ }
 {
     let and = perhaps_at(text, at, codes::AND);
     if !and.found {
@@ -116,7 +118,7 @@ fn read_after_north(text: &[u8], at: usize, north: Side, refusal: u8) -> Locatio
 // OF and a latitude, after `N` or `S`, and what may follow.
 fn read_north(text: &[u8], at: usize, side: u8, refusal: u8) -> LocationRead
     requires { ⌜ at ≤ length (now text) ⌝ }
-    ensures { λ r. ⌜ NorthSays side refusal (now (text .entry)) at (r .number) (r .place) (r .extent) ⌝ }
+    ensures { λ r. ⌜ LocatedSays (atLatitudeOf side) refusal (now (text .entry)) at (r .number) (r .place) (r .extent) ⌝ }
 {
     let of = fixed_at(text, at, codes::OF, refusal);
     if of.number != 0 {
@@ -144,9 +146,13 @@ fn read_north(text: &[u8], at: usize, side: u8, refusal: u8) -> LocationRead
 // FIR, or CTA in a CTA, after ENTIRE.
 fn read_entire(text: &[u8], at: usize, closing: u8, refusal: u8) -> LocationRead
     requires { ⌜ at ≤ length (now text) ⌝ }
-    ensures { λ r. ⌜ EntireSays closing refusal (now (text .entry)) at (r .number) (r .place) (r .extent) ⌝ }
+    ensures { λ r. ⌜ LocatedInSays closing atEntire refusal (now (text .entry)) at (r .number) (r .place) (r .extent) ⌝ }
 {
-    let name = if closing == 3 { codes::CTA } else { codes::FIR };
+    let name = if closing == limits::CTA {
+        codes::CTA
+    } else {
+        codes::FIR
+    };
     let k = fixed_at(text, at, name, refusal);
     let none = no_extent();
     let points = none.points;
@@ -163,14 +169,14 @@ fn read_entire(text: &[u8], at: usize, closing: u8, refusal: u8) -> LocationRead
 // A bound by its first word, or the entire area, or an outline.
 pub(crate) fn read_location(text: &[u8], at: usize, closing: u8, refusal: u8) -> LocationRead
     requires { ⌜ (at ≤ length (now text)) × (0 < refusal) ⌝ }
-    ensures { λ r. ⌜ LocationSays closing refusal (now (text .entry)) at (r .number) (r .place) (r .extent) ⌝ }
+    ensures { λ r. ⌜ LocatedInSays closing atLocation refusal (now (text .entry)) at (r .number) (r .place) (r .extent) ⌝ }
 {
     let k = code_at(text, at);
-    let north = side_letter(k.code, 78, 83);
+    let north = side_letter(k.code, b'N', b'S');
     if north != 0 {
         return read_north(text, k.end, north, refusal);
     }
-    let east = side_letter(k.code, 69, 87);
+    let east = side_letter(k.code, b'E', b'W');
     if east != 0 {
         let none = no_side();
         return read_east(text, k.end, none, east, refusal);

@@ -1,5 +1,4 @@
 // Observation: OBS or FCST, perhaps AT GGggZ.
-ghost use mathlib.Core.Path.{_≡_};
 ghost use Prim.Native.Nat.{_≤_};
 ghost use lib.ListN.{length};
 ghost use Rattle.reader.specs.Reports.{ObservedSays, ObservationSays};

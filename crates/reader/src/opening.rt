@@ -1,5 +1,4 @@
 // Heading: the designator, the centre and the group, then perhaps a correction.
-ghost use mathlib.Core.Path.{_≡_};
 ghost use Prim.Native.Nat.{_≤_};
 ghost use lib.ListN.{length};
 ghost use Rattle.reader.specs.Heads.{SentSays, CorrectionSays, HeadingSays};

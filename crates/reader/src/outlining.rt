@@ -1,14 +1,17 @@
 // An outline: points joined by the word `-`. It ends at the first later point equal to point 1.
-ghost use mathlib.Core.Path.{_≡_};
 ghost use Prim.Native.Nat.{_≤_, _<_};
 ghost use lib.ListN.{length};
-ghost use Rattle.reader.specs.Outlines.{FollowsSays, ClosesSays, LatitudeSays, LongitudeSays, PointSays, OutlineSays};
+ghost use mathlib.Core.List.{[]};
+ghost use Rattle.grammar.specs.States.Placing.{atLatitude};
+ghost use Rattle.reader.specs.Locations.{LocatedSays};
+ghost use Rattle.reader.specs.Outlines.{FollowsSays, ClosesSays, LatitudeSays, LongitudeSays, PointSays};
 use crate::codes;
 use crate::empties::no_extent;
 use crate::empties::no_point;
 use crate::fixed::fixed_at;
 use crate::fixed::word;
 use crate::kinds::CoordinateRead;
+use crate::limits;
 use crate::locating::LocationRead;
 use coordinates::Coordinate;
 use coordinates::Point;
@@ -101,7 +104,7 @@ fn next_longitude(
     };
     let closed = closes(first, count, point);
     let fits = if closed {
-        4 <= count + 1
+        limits::LEAST_POINTS <= count + 1
     } else {
         count + 1 < MOST_POINTS
     };
@@ -164,7 +167,7 @@ fn next_point(text: &[u8], at: usize, first: Point, count: usize, refusal: u8) -
 // The points after WI.
 pub(crate) fn read_outline(text: &[u8], at: usize, refusal: u8) -> LocationRead
     requires { ⌜ (at ≤ length (now text)) × (0 < refusal) ⌝ }
-    ensures { λ r. ⌜ OutlineSays refusal (now (text .entry)) at (r .number) (r .place) (r .extent) ⌝ }
+    ensures { λ r. ⌜ LocatedSays (atLatitude []) refusal (now (text .entry)) at (r .number) (r .place) (r .extent) ⌝ }
 {
     let none = no_point();
     let mut points = [none; MOST_POINTS];

@@ -1,15 +1,15 @@
 // A report: phenomenon, observation, location, level, then the ending and the `=`.
-ghost use mathlib.Core.Path.{_≡_};
 ghost use Prim.Native.Nat.{_≤_};
 ghost use lib.ListN.{length};
 ghost use Rattle.reader.specs.Reports.{PhenomenonSays, WhatSays, WhereSays, ReportSays};
-use crate::ashes::AshRead;
+use crate::ashes::PhenomenonRead;
 use crate::ashes::read_ash;
 use crate::empties::no_report;
 use crate::empties::no_volcano;
 use crate::endings::read_ending;
 use crate::fixed::concluding;
 use crate::levelling::read_level;
+use crate::limits;
 use crate::locating::read_location;
 use crate::observing::read_observation;
 use crate::weather::read_weather;
@@ -42,14 +42,14 @@ pub(crate) struct ReportRead {
 }
 
 // The phenomenon of a WS or of a WV.
-fn read_phenomenon(text: &[u8], at: usize, kind: u8) -> AshRead
+fn read_phenomenon(text: &[u8], at: usize, kind: u8) -> PhenomenonRead
     requires { ⌜ at ≤ length (now text) ⌝ }
     ensures { λ r. ⌜ PhenomenonSays kind (now (text .entry)) at (r .number) (r .place) (r .phenomenon) (r .volcano) ⌝ }
 {
-    if kind == 2 {
+    if kind == limits::WS {
         let w = read_weather(text, at);
         let none = no_volcano();
-        return AshRead {
+        return PhenomenonRead {
             number: w.number,
             place: w.place,
             phenomenon: w.phenomenon,

@@ -1,5 +1,4 @@
 // A test: TEST, or TEST SIGMET PLEASE DISREGARD, or TEST. THIS IS A TEST SIGMET, PLEASE DISREGARD.
-ghost use mathlib.Core.Path.{_≡_};
 ghost use Prim.Native.Nat.{_≤_};
 ghost use lib.ListN.{length};
 ghost use Rattle.reader.specs.Forms.{PleaseSays, TestTextSays, TestSays, LongTestSays};
@@ -24,7 +23,7 @@ fn read_please(text: &[u8], at: usize) -> PlaceRead
     if p.number != 0 {
         return p;
     }
-    let d = long_at(text, p.place, 43, 7);
+    let d = long_at(text, p.place, codes::DISREGARD, 7);
     PlaceRead {
         number: d.number,
         place: d.place,

@@ -1,8 +1,8 @@
 // Phenomenon of a WS: its number, in the paper's order.
-ghost use mathlib.Core.Path.{_≡_};
 ghost use Prim.Native.Nat.{_≤_};
 ghost use lib.ListN.{length};
-ghost use Rattle.reader.specs.Phenomena.{StormSays, SevereSays, HeavySays, RadioactiveSays, WeatherSays};
+ghost use Rattle.grammar.specs.States.State.{atStorm, atSevere, atHeavy, atRadioactive};
+ghost use Rattle.reader.specs.Phenomena.{WeatherFrom, WeatherSays};
 use crate::codes;
 use crate::fixed::code_at;
 use crate::fixed::fixed_at;
@@ -18,7 +18,7 @@ pub(crate) struct WeatherRead {
 // TS or TSGR, after the storm's first word.
 fn read_storm(text: &[u8], at: usize, storm: u8) -> WeatherRead
     requires { ⌜ (at ≤ length (now text)) × ((1 ≤ storm) × (storm ≤ 4)) ⌝ }
-    ensures { λ r. ⌜ StormSays storm (now (text .entry)) at (r .number) (r .place) (r .phenomenon) ⌝ }
+    ensures { λ r. ⌜ WeatherFrom (λ o. atStorm o storm) (now (text .entry)) at (r .number) (r .place) (r .phenomenon) ⌝ }
 {
     let k = code_at(text, at);
     if k.code == codes::TS {
@@ -45,7 +45,7 @@ fn read_storm(text: &[u8], at: usize, storm: u8) -> WeatherRead
 // TURB, ICE, ICE (FZRA) or MTW, after SEV.
 fn read_severe(text: &[u8], at: usize) -> WeatherRead
     requires { ⌜ at ≤ length (now text) ⌝ }
-    ensures { λ r. ⌜ SevereSays (now (text .entry)) at (r .number) (r .place) (r .phenomenon) ⌝ }
+    ensures { λ r. ⌜ WeatherFrom atSevere (now (text .entry)) at (r .number) (r .place) (r .phenomenon) ⌝ }
 {
     let k = code_at(text, at);
     if k.code == codes::TURB {
@@ -87,7 +87,7 @@ fn read_severe(text: &[u8], at: usize) -> WeatherRead
 // DS or SS, after HVY.
 fn read_heavy(text: &[u8], at: usize) -> WeatherRead
     requires { ⌜ at ≤ length (now text) ⌝ }
-    ensures { λ r. ⌜ HeavySays (now (text .entry)) at (r .number) (r .place) (r .phenomenon) ⌝ }
+    ensures { λ r. ⌜ WeatherFrom atHeavy (now (text .entry)) at (r .number) (r .place) (r .phenomenon) ⌝ }
 {
     let k = code_at(text, at);
     if k.code == codes::DS {
@@ -114,7 +114,7 @@ fn read_heavy(text: &[u8], at: usize) -> WeatherRead
 // CLD, after RDOACT.
 fn read_radioactive(text: &[u8], at: usize) -> WeatherRead
     requires { ⌜ at ≤ length (now text) ⌝ }
-    ensures { λ r. ⌜ RadioactiveSays (now (text .entry)) at (r .number) (r .place) (r .phenomenon) ⌝ }
+    ensures { λ r. ⌜ WeatherFrom atRadioactive (now (text .entry)) at (r .number) (r .place) (r .phenomenon) ⌝ }
 {
     let cloud = fixed_at(text, at, codes::CLD, 7);
     WeatherRead {
