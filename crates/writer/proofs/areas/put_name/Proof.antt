@@ -1,0 +1,36 @@
+use borrow.Author.Needs.{needs}
+use Rattle.writer.proofs.areas.put_name.Statement.{statement}
+use Rattle.writer.proofs.areas.put_name.Tie as tie
+use Rattle.writer.proofs.areas.put_name.Reads as reads
+use Rattle.writer.proofs.areas.put_name.Lts as lts
+use Rattle.pens.proofs.put_word.Reads as put-word-reads
+
+-- src/areas.rt:22:23
+array-share-prefix-text : tie.Need-array-share-prefix-text
+array-share-prefix-text c = ?
+
+-- src/areas.rt:22:23
+slice-aggregate-put-word : tie.Need-slice-aggregate-put-word
+slice-aggregate-put-word c = ?
+
+-- src/areas.rt:22:5
+put-word-requires : tie.Need-put-word-requires
+put-word-requires c κs = search needs
+
+-- src/areas.rt:16:1
+same-length : tie.Need-same-length
+same-length c = search needs
+
+-- src/areas.rt:16:1
+returns : tie.Need-returns
+returns c = ?
+
+pub put-name-spec : {M : Type 1} → statement M
+put-name-spec =
+    tie.close
+    (tie.spec
+    array-share-prefix-text
+    slice-aggregate-put-word
+    put-word-requires
+    same-length
+    returns)

@@ -1,0 +1,347 @@
+use borrow.Author.Needs.{needs}
+use Rattle.writer.proofs.endings.put_compass.Statement.{statement}
+use Rattle.writer.proofs.endings.put_compass.Tie as tie
+use Rattle.writer.proofs.endings.put_compass.Reads as reads
+use Rattle.writer.proofs.endings.put_compass.Lts as lts
+use Rattle.pens.proofs.put.Reads as put-reads
+use Rattle.pens.proofs.put_word.Reads as put-word-reads
+
+-- src/endings.rt:28:32
+slice-aggregate-put-word : tie.Need-slice-aggregate-put-word
+slice-aggregate-put-word c = search needs
+
+-- src/endings.rt:28:14
+put-word-requires : tie.Need-put-word-requires
+put-word-requires c κs = search needs
+
+-- src/endings.rt:29:32
+slice-aggregate-put-word-2 : tie.Need-slice-aggregate-put-word-2
+slice-aggregate-put-word-2 c = search needs
+
+-- src/endings.rt:29:14
+put-word-requires-2 : tie.Need-put-word-requires-2
+put-word-requires-2 c κs = search needs
+
+-- src/endings.rt:30:32
+slice-aggregate-put-word-3 : tie.Need-slice-aggregate-put-word-3
+slice-aggregate-put-word-3 c = search needs
+
+-- src/endings.rt:30:14
+put-word-requires-3 : tie.Need-put-word-requires-3
+put-word-requires-3 c κs = search needs
+
+-- src/endings.rt:31:32
+slice-aggregate-put-word-4 : tie.Need-slice-aggregate-put-word-4
+slice-aggregate-put-word-4 c = search needs
+
+-- src/endings.rt:31:14
+put-word-requires-4 : tie.Need-put-word-requires-4
+put-word-requires-4 c κs = search needs
+
+-- src/endings.rt:32:32
+slice-aggregate-put-word-5 : tie.Need-slice-aggregate-put-word-5
+slice-aggregate-put-word-5 c = search needs
+
+-- src/endings.rt:32:14
+put-word-requires-5 : tie.Need-put-word-requires-5
+put-word-requires-5 c κs = search needs
+
+-- src/endings.rt:33:32
+slice-aggregate-put-word-6 : tie.Need-slice-aggregate-put-word-6
+slice-aggregate-put-word-6 c = search needs
+
+-- src/endings.rt:33:14
+put-word-requires-6 : tie.Need-put-word-requires-6
+put-word-requires-6 c κs = search needs
+
+-- src/endings.rt:34:32
+slice-aggregate-put-word-7 : tie.Need-slice-aggregate-put-word-7
+slice-aggregate-put-word-7 c = search needs
+
+-- src/endings.rt:34:14
+put-word-requires-7 : tie.Need-put-word-requires-7
+put-word-requires-7 c κs = search needs
+
+-- src/endings.rt:35:32
+slice-aggregate-put-word-8 : tie.Need-slice-aggregate-put-word-8
+slice-aggregate-put-word-8 c = search needs
+
+-- src/endings.rt:35:14
+put-word-requires-8 : tie.Need-put-word-requires-8
+put-word-requires-8 c κs = search needs
+
+-- src/endings.rt:36:32
+slice-aggregate-put-word-9 : tie.Need-slice-aggregate-put-word-9
+slice-aggregate-put-word-9 c = search needs
+
+-- src/endings.rt:36:14
+put-word-requires-9 : tie.Need-put-word-requires-9
+put-word-requires-9 c κs = search needs
+
+-- src/endings.rt:37:32
+slice-aggregate-put-word-10 : tie.Need-slice-aggregate-put-word-10
+slice-aggregate-put-word-10 c = search needs
+
+-- src/endings.rt:37:14
+put-word-requires-10 : tie.Need-put-word-requires-10
+put-word-requires-10 c κs = search needs
+
+-- src/endings.rt:38:33
+slice-aggregate-put-word-11 : tie.Need-slice-aggregate-put-word-11
+slice-aggregate-put-word-11 c = search needs
+
+-- src/endings.rt:38:15
+put-word-requires-11 : tie.Need-put-word-requires-11
+put-word-requires-11 c κs = search needs
+
+-- src/endings.rt:39:33
+slice-aggregate-put-word-12 : tie.Need-slice-aggregate-put-word-12
+slice-aggregate-put-word-12 c = search needs
+
+-- src/endings.rt:39:15
+put-word-requires-12 : tie.Need-put-word-requires-12
+put-word-requires-12 c κs = search needs
+
+-- src/endings.rt:40:33
+slice-aggregate-put-word-13 : tie.Need-slice-aggregate-put-word-13
+slice-aggregate-put-word-13 c = search needs
+
+-- src/endings.rt:40:15
+put-word-requires-13 : tie.Need-put-word-requires-13
+put-word-requires-13 c κs = search needs
+
+-- src/endings.rt:41:33
+slice-aggregate-put-word-14 : tie.Need-slice-aggregate-put-word-14
+slice-aggregate-put-word-14 c = search needs
+
+-- src/endings.rt:41:15
+put-word-requires-14 : tie.Need-put-word-requires-14
+put-word-requires-14 c κs = search needs
+
+-- src/endings.rt:42:33
+slice-aggregate-put-word-15 : tie.Need-slice-aggregate-put-word-15
+slice-aggregate-put-word-15 c = search needs
+
+-- src/endings.rt:42:15
+put-word-requires-15 : tie.Need-put-word-requires-15
+put-word-requires-15 c κs = search needs
+
+-- src/endings.rt:43:33
+slice-aggregate-put-word-16 : tie.Need-slice-aggregate-put-word-16
+slice-aggregate-put-word-16 c = search needs
+
+-- src/endings.rt:43:15
+put-word-requires-16 : tie.Need-put-word-requires-16
+put-word-requires-16 c κs = search needs
+
+-- src/endings.rt:44:21
+put-requires : tie.Need-put-requires
+put-requires c κs = search needs
+
+-- src/endings.rt:24:1
+same-length : tie.Need-same-length
+same-length c = search needs
+
+-- src/endings.rt:24:1
+returns : tie.Need-returns
+returns c = ?
+
+-- src/endings.rt:24:1
+same-length-2 : tie.Need-same-length-2
+same-length-2 c = search needs
+
+-- src/endings.rt:24:1
+returns-2 : tie.Need-returns-2
+returns-2 c = ?
+
+-- src/endings.rt:24:1
+same-length-3 : tie.Need-same-length-3
+same-length-3 c = search needs
+
+-- src/endings.rt:24:1
+returns-3 : tie.Need-returns-3
+returns-3 c = ?
+
+-- src/endings.rt:24:1
+same-length-4 : tie.Need-same-length-4
+same-length-4 c = search needs
+
+-- src/endings.rt:24:1
+returns-4 : tie.Need-returns-4
+returns-4 c = ?
+
+-- src/endings.rt:24:1
+same-length-5 : tie.Need-same-length-5
+same-length-5 c = search needs
+
+-- src/endings.rt:24:1
+returns-5 : tie.Need-returns-5
+returns-5 c = ?
+
+-- src/endings.rt:24:1
+same-length-6 : tie.Need-same-length-6
+same-length-6 c = search needs
+
+-- src/endings.rt:24:1
+returns-6 : tie.Need-returns-6
+returns-6 c = ?
+
+-- src/endings.rt:24:1
+same-length-7 : tie.Need-same-length-7
+same-length-7 c = search needs
+
+-- src/endings.rt:24:1
+returns-7 : tie.Need-returns-7
+returns-7 c = ?
+
+-- src/endings.rt:24:1
+same-length-8 : tie.Need-same-length-8
+same-length-8 c = search needs
+
+-- src/endings.rt:24:1
+returns-8 : tie.Need-returns-8
+returns-8 c = ?
+
+-- src/endings.rt:24:1
+same-length-9 : tie.Need-same-length-9
+same-length-9 c = search needs
+
+-- src/endings.rt:24:1
+returns-9 : tie.Need-returns-9
+returns-9 c = ?
+
+-- src/endings.rt:24:1
+same-length-10 : tie.Need-same-length-10
+same-length-10 c = search needs
+
+-- src/endings.rt:24:1
+returns-10 : tie.Need-returns-10
+returns-10 c = ?
+
+-- src/endings.rt:24:1
+same-length-11 : tie.Need-same-length-11
+same-length-11 c = search needs
+
+-- src/endings.rt:24:1
+returns-11 : tie.Need-returns-11
+returns-11 c = ?
+
+-- src/endings.rt:24:1
+same-length-12 : tie.Need-same-length-12
+same-length-12 c = search needs
+
+-- src/endings.rt:24:1
+returns-12 : tie.Need-returns-12
+returns-12 c = ?
+
+-- src/endings.rt:24:1
+same-length-13 : tie.Need-same-length-13
+same-length-13 c = search needs
+
+-- src/endings.rt:24:1
+returns-13 : tie.Need-returns-13
+returns-13 c = ?
+
+-- src/endings.rt:24:1
+same-length-14 : tie.Need-same-length-14
+same-length-14 c = search needs
+
+-- src/endings.rt:24:1
+returns-14 : tie.Need-returns-14
+returns-14 c = ?
+
+-- src/endings.rt:24:1
+same-length-15 : tie.Need-same-length-15
+same-length-15 c = search needs
+
+-- src/endings.rt:24:1
+returns-15 : tie.Need-returns-15
+returns-15 c = ?
+
+-- src/endings.rt:24:1
+same-length-16 : tie.Need-same-length-16
+same-length-16 c = search needs
+
+-- src/endings.rt:24:1
+returns-16 : tie.Need-returns-16
+returns-16 c = ?
+
+-- src/endings.rt:24:1
+same-length-17 : tie.Need-same-length-17
+same-length-17 c = search needs
+
+-- src/endings.rt:24:1
+returns-17 : tie.Need-returns-17
+returns-17 c = ?
+
+pub put-compass-spec : {M : Type 1} → statement M
+put-compass-spec =
+    tie.close
+    (tie.spec
+    slice-aggregate-put-word
+    put-word-requires
+    slice-aggregate-put-word-2
+    put-word-requires-2
+    slice-aggregate-put-word-3
+    put-word-requires-3
+    slice-aggregate-put-word-4
+    put-word-requires-4
+    slice-aggregate-put-word-5
+    put-word-requires-5
+    slice-aggregate-put-word-6
+    put-word-requires-6
+    slice-aggregate-put-word-7
+    put-word-requires-7
+    slice-aggregate-put-word-8
+    put-word-requires-8
+    slice-aggregate-put-word-9
+    put-word-requires-9
+    slice-aggregate-put-word-10
+    put-word-requires-10
+    slice-aggregate-put-word-11
+    put-word-requires-11
+    slice-aggregate-put-word-12
+    put-word-requires-12
+    slice-aggregate-put-word-13
+    put-word-requires-13
+    slice-aggregate-put-word-14
+    put-word-requires-14
+    slice-aggregate-put-word-15
+    put-word-requires-15
+    slice-aggregate-put-word-16
+    put-word-requires-16
+    put-requires
+    same-length
+    returns
+    same-length-2
+    returns-2
+    same-length-3
+    returns-3
+    same-length-4
+    returns-4
+    same-length-5
+    returns-5
+    same-length-6
+    returns-6
+    same-length-7
+    returns-7
+    same-length-8
+    returns-8
+    same-length-9
+    returns-9
+    same-length-10
+    returns-10
+    same-length-11
+    returns-11
+    same-length-12
+    returns-12
+    same-length-13
+    returns-13
+    same-length-14
+    returns-14
+    same-length-15
+    returns-15
+    same-length-16
+    returns-16
+    same-length-17
+    returns-17)

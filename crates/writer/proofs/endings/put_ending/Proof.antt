@@ -1,0 +1,83 @@
+use borrow.Author.Needs.{needs}
+use Rattle.writer.proofs.endings.put_ending.Statement.{statement}
+use Rattle.writer.proofs.endings.put_ending.Tie as tie
+use Rattle.writer.proofs.endings.put_ending.Reads as reads
+use Rattle.writer.proofs.endings.put_ending.Lts as lts
+use Rattle.writer.proofs.endings.put_forecast.Reads as put-forecast-reads
+use Rattle.writer.proofs.endings.put_moving.Reads as put-moving-reads
+use Rattle.writer.proofs.endings.put_stationary.Reads as put-stationary-reads
+
+-- src/endings.rt:108:29
+enum-told : tie.Need-enum-told
+enum-told c = search needs
+
+-- src/endings.rt:109:24
+enum-known-ending : tie.Need-enum-known-ending
+enum-known-ending c = search needs
+
+-- src/endings.rt:109:52
+put-moving-requires : tie.Need-put-moving-requires
+put-moving-requires c κs = search needs
+
+-- src/endings.rt:110:28
+enum-known-ending-2 : tie.Need-enum-known-ending-2
+enum-known-ending-2 c = search needs
+
+-- src/endings.rt:110:42
+put-stationary-requires : tie.Need-put-stationary-requires
+put-stationary-requires c κs = search needs
+
+-- src/endings.rt:111:26
+enum-known-ending-3 : tie.Need-enum-known-ending-3
+enum-known-ending-3 c = search needs
+
+-- src/endings.rt:111:40
+put-forecast-requires : tie.Need-put-forecast-requires
+put-forecast-requires c κs = ?
+
+-- src/endings.rt:103:1
+returns : tie.Need-returns
+returns c = ?
+
+-- src/endings.rt:103:1
+same-length : tie.Need-same-length
+same-length c = search needs
+
+-- src/endings.rt:103:1
+returns-2 : tie.Need-returns-2
+returns-2 c = ?
+
+-- src/endings.rt:103:1
+same-length-2 : tie.Need-same-length-2
+same-length-2 c = search needs
+
+-- src/endings.rt:103:1
+returns-3 : tie.Need-returns-3
+returns-3 c = ?
+
+-- src/endings.rt:103:1
+same-length-3 : tie.Need-same-length-3
+same-length-3 c = search needs
+
+-- src/endings.rt:103:1
+returns-4 : tie.Need-returns-4
+returns-4 c = ?
+
+pub put-ending-spec : {M : Type 1} → statement M
+put-ending-spec =
+    tie.close
+    (tie.spec
+    enum-told
+    enum-known-ending
+    put-moving-requires
+    enum-known-ending-2
+    put-stationary-requires
+    enum-known-ending-3
+    put-forecast-requires
+    returns
+    same-length
+    returns-2
+    same-length-2
+    returns-3
+    same-length-3
+    returns-4)

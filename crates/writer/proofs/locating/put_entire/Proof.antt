@@ -1,0 +1,51 @@
+use borrow.Author.Needs.{needs}
+use Rattle.writer.proofs.locating.put_entire.Statement.{statement}
+use Rattle.writer.proofs.locating.put_entire.Tie as tie
+use Rattle.writer.proofs.locating.put_entire.Reads as reads
+use Rattle.writer.proofs.locating.put_entire.Lts as lts
+use Rattle.pens.proofs.put_word.Reads as put-word-reads
+
+-- src/locating.rt:100:32
+slice-aggregate-put-word : tie.Need-slice-aggregate-put-word
+slice-aggregate-put-word c = search needs
+
+-- src/locating.rt:100:14
+put-word-requires : tie.Need-put-word-requires
+put-word-requires c κs = search needs
+
+-- src/locating.rt:101:32
+slice-aggregate-put-word-2 : tie.Need-slice-aggregate-put-word-2
+slice-aggregate-put-word-2 c = search needs
+
+-- src/locating.rt:101:14
+put-word-requires-2 : tie.Need-put-word-requires-2
+put-word-requires-2 c κs = search needs
+
+-- src/locating.rt:96:1
+same-length : tie.Need-same-length
+same-length c = search needs
+
+-- src/locating.rt:96:1
+returns : tie.Need-returns
+returns c = ?
+
+-- src/locating.rt:96:1
+same-length-2 : tie.Need-same-length-2
+same-length-2 c = search needs
+
+-- src/locating.rt:96:1
+returns-2 : tie.Need-returns-2
+returns-2 c = ?
+
+pub put-entire-spec : {M : Type 1} → statement M
+put-entire-spec =
+    tie.close
+    (tie.spec
+    slice-aggregate-put-word
+    put-word-requires
+    slice-aggregate-put-word-2
+    put-word-requires-2
+    same-length
+    returns
+    same-length-2
+    returns-2)

@@ -1,0 +1,26 @@
+use borrow.Author.Needs.{needs}
+use Rattle.writer.proofs.locating.put_point.Statement.{statement}
+use Rattle.writer.proofs.locating.put_point.Tie as tie
+use Rattle.writer.proofs.locating.put_point.Reads as reads
+use Rattle.writer.proofs.locating.put_point.Lts as lts
+use Rattle.writer.proofs.locating.put_coordinate.Reads as put-coordinate-reads
+
+-- src/locating.rt:41:9
+put-coordinate-requires : tie.Need-put-coordinate-requires
+put-coordinate-requires c κs = search needs
+
+-- src/locating.rt:42:5
+put-coordinate-requires-2 : tie.Need-put-coordinate-requires-2
+put-coordinate-requires-2 c κs = search needs
+
+-- src/locating.rt:36:1
+same-length : tie.Need-same-length
+same-length c = search needs
+
+-- src/locating.rt:36:1
+returns : tie.Need-returns
+returns c = ?
+
+pub put-point-spec : {M : Type 1} → statement M
+put-point-spec =
+    tie.close (tie.spec put-coordinate-requires put-coordinate-requires-2 same-length returns)

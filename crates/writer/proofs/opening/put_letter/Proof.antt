@@ -1,0 +1,25 @@
+use borrow.Author.Needs.{needs}
+use Rattle.writer.proofs.opening.put_letter.Statement.{statement}
+use Rattle.writer.proofs.opening.put_letter.Tie as tie
+use Rattle.writer.proofs.opening.put_letter.Reads as reads
+use Rattle.writer.proofs.opening.put_letter.Lts as lts
+use Rattle.pens.proofs.put.Reads as put-reads
+
+-- src/opening.rt:87:9
+returns : tie.Need-returns
+returns c = ?
+
+-- src/opening.rt:89:5
+put-requires : tie.Need-put-requires
+put-requires c κs = search needs
+
+-- src/opening.rt:83:1
+same-length : tie.Need-same-length
+same-length c = search needs
+
+-- src/opening.rt:83:1
+returns-2 : tie.Need-returns-2
+returns-2 c = ?
+
+pub put-letter-spec : {M : Type 1} → statement M
+put-letter-spec = tie.close (tie.spec returns put-requires same-length returns-2)

@@ -1,0 +1,42 @@
+use borrow.Author.Needs.{needs}
+use Rattle.writer.proofs.phenomena.put_mount.Statement.{statement}
+use Rattle.writer.proofs.phenomena.put_mount.Tie as tie
+use Rattle.writer.proofs.phenomena.put_mount.Reads as reads
+use Rattle.writer.proofs.phenomena.put_mount.Lts as lts
+use Rattle.pens.proofs.put_word.Reads as put-word-reads
+use Rattle.writer.proofs.areas.put_name.Reads as put-name-reads
+
+-- src/phenomena.rt:68:9
+returns : tie.Need-returns
+returns c = ?
+
+-- src/phenomena.rt:70:34
+slice-aggregate-put-word : tie.Need-slice-aggregate-put-word
+slice-aggregate-put-word c = search needs
+
+-- src/phenomena.rt:70:9
+put-word-requires : tie.Need-put-word-requires
+put-word-requires c κs = search needs
+
+-- src/phenomena.rt:71:5
+put-name-requires : tie.Need-put-name-requires
+put-name-requires c κs = ?
+
+-- src/phenomena.rt:63:1
+same-length : tie.Need-same-length
+same-length c = search needs
+
+-- src/phenomena.rt:63:1
+returns-2 : tie.Need-returns-2
+returns-2 c = ?
+
+pub put-mount-spec : {M : Type 1} → statement M
+put-mount-spec =
+    tie.close
+    (tie.spec
+    returns
+    slice-aggregate-put-word
+    put-word-requires
+    put-name-requires
+    same-length
+    returns-2)

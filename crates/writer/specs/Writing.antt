@@ -1,0 +1,106 @@
+-- What the sections of the writer promise. The words are those of crate message; here are names for parts of them, and for what a section
+-- is handed.
+-- Assumes nothing.
+use mathlib.Core.Bool.{true}
+use mathlib.Core.List.{List, [], _∷_, _++_}
+use mathlib.Core.Path.{_≡_}
+use Prim.Native.Char.{code}
+use Prim.Native.Nat.{ℕ, _-_}
+use lib.Dec.{eqb}
+use lib.ListN.{getD, take}
+use Rattle.lists.specs.Choice.{pick, either}
+use Rattle.lists.specs.Text.{bytes}
+use Rattle.figures.specs.Figures.{inFigures}
+use Rattle.coordinates.specs.Coordinates.{Axis}
+use Rattle.coordinates.specs.declared.Point.{Point}
+use Rattle.groups.specs.Groups.{spellPeriod, spellTime}
+use Rattle.groups.specs.declared.Group.{Group}
+use Rattle.groups.specs.declared.Time.{Time}
+use Rattle.headings.specs.Sequences.{spellSequence}
+use Rattle.headings.specs.declared.Sequence.{Sequence}
+use Rattle.motions.specs.Motions.{spellCompass, spellIntensity}
+use Rattle.motions.specs.Speeds.{spellSpeed}
+use Rattle.motions.specs.declared.Speed.{Speed}
+use Rattle.message.specs.Limits.{mountainLimit}
+use Rattle.message.specs.Locations.{joined, extentWords}
+use Rattle.message.specs.Names.{goodName, emptyName}
+use Rattle.message.specs.Reports.{phenomena, goodPhenomenon, goodEnding, goodReport}
+use Rattle.message.specs.Words.{testTexts}
+use Rattle.message.specs.declared.Ending.{Ending}
+use Rattle.message.specs.declared.Extent.{Extent}
+use Rattle.message.specs.declared.Name.{Name}
+use Rattle.message.specs.declared.Report.{Report}
+use Rattle.message.specs.declared.Volcano.{Volcano}
+use Rattle.grammar.specs.Writes.{Wrote}
+use Rattle.writer.specs.declared.Written.{Written}
+
+-- the reply of `write` with the buffer as it is then
+abbrev pub wrote : Written → List ℕ → Wrote
+wrote r buffer = record { number = r .number; count = r .count; buffer = buffer }
+
+-- What a section is handed: a part of a good record of some kind.
+
+pub record GoodReport (r : Report) : Type 0 where
+  pub kind : ℕ
+  pub holds : goodReport kind r ≡ true
+
+pub record GoodPhenomenon (n : ℕ) (v : Volcano) : Type 0 where
+  pub kind : ℕ
+  pub holds : goodPhenomenon kind n v ≡ true
+
+pub record GoodEnding (e : Ending) (f : Extent) : Type 0 where
+  pub kind : ℕ
+  pub holds : goodEnding kind e f ≡ true
+
+-- "perhaps `MT` and a name"
+pub record GoodMount (n : Name) : Type 0 where
+  pub holds : either (emptyName n) (goodName true mountainLimit n) ≡ true
+
+-- Parts of the words of a record.
+
+-- `TEST`, or one of the longer texts, by its number
+abbrev pub testWords : ℕ → List (List ℕ)
+testWords n = getD testTexts (n - 1) []
+
+abbrev pub cancellationWords : Sequence → Group → Group → List (List ℕ)
+cancellationWords s from to = bytes "CNL" ∷ bytes "SIGMET" ∷ spellSequence s ∷ spellPeriod (record { from = from; to = to }) ∷ []
+
+-- a phenomenon's words by its number, and the first and second of them
+abbrev pub namedWords : ℕ → List (List ℕ)
+namedWords n = getD phenomena (n - 1) []
+
+abbrev pub firstWord : ℕ → List ℕ
+firstWord n = getD (namedWords n) 0 []
+
+abbrev pub secondWord : ℕ → List ℕ
+secondWord n = getD (namedWords n) 1 []
+
+-- `OBS` or `FCST`
+abbrev pub observedWord : ℕ → List ℕ
+observedWord n = pick (eqb n 1) (bytes "OBS") (bytes "FCST")
+
+-- an axis by how many digits its degrees have, which is all that a spelling asks of it
+abbrev pub axisOf : ℕ → Axis
+axisOf width = record { width = width; greatest = 0; plus = 0; minus = 0 }
+
+-- "`WI` and 4 to 7 points joined by the word `-`"
+abbrev pub outlineWords : ℕ → List Point → List (List ℕ)
+outlineWords n points = bytes "WI" ∷ joined (take n points)
+
+-- a number in so many figures, with what stands before and behind it
+abbrev pub measuredWord : List ℕ → ℕ → ℕ → List ℕ → List ℕ
+measuredWord front n figures unit = front ++ (inFigures figures n ++ unit)
+
+-- `FLnnn/nnn`
+abbrev pub bandWord : ℕ → ℕ → List ℕ
+bandWord low high = bytes "FL" ++ (inFigures 3 low ++ (code "/" ∷ inFigures 3 high))
+
+abbrev pub movingWords : ℕ → Speed → ℕ → List (List ℕ)
+movingWords direction s intensity = bytes "MOV" ∷ spellCompass direction ∷ spellSpeed s ∷ spellIntensity intensity ∷ []
+
+abbrev pub stationaryWords : ℕ → List (List ℕ)
+stationaryWords intensity = bytes "STNR" ∷ spellIntensity intensity ∷ []
+
+abbrev pub forecastWords : Time → ℕ → ℕ → Extent → List (List ℕ)
+forecastWords end closing intensity forecast =
+    spellIntensity intensity ∷ bytes "FCST" ∷ bytes "AT" ∷ spellTime end ∷ extentWords closing forecast
