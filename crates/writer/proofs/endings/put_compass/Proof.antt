@@ -1,6 +1,6 @@
 -- `put_compass` meets its contract: each number has its word, and from 16 on there is none. Assumes nothing.
 use Rattle.motions.specs.Motions.{compassWords}
-use Prim.Native.Nat.{zero-le}
+use Prim.Native.Nat.{_≤_, zero-le}
 use Rattle.writer.proofs.Tables.{no-word, past}
 use Rattle.pens.proofs.PenLaws.{a-space}
 use borrow.Author.Needs.{needs}
@@ -10,6 +10,42 @@ use Rattle.writer.proofs.endings.put_compass.Reads as reads
 use Rattle.writer.proofs.endings.put_compass.Lts as lts
 use Rattle.pens.proofs.put.Reads as put-reads
 use Rattle.pens.proofs.put_word.Reads as put-word-reads
+
+-- none of the numbers 0 to 15, one by one
+past-fifteen : (c : tie.At-match-rest) → 16 ≤ c .before .before .args .direction
+past-fifteen c =
+    (past 15
+    (past 14
+    (past 13
+    (past 12
+    (past 11
+    (past 10
+    (past 9
+    (past 8
+    (past 7
+    (past 6
+    (past 5
+    (past 4
+    (past 3
+    (past 2
+    (past 1
+    (past 0 zero-le
+    (c .match .rest .0 .0 .0 .0 .0 .0 .0 .0 .0 .0 .0 .0 .0 .0 .0 .1))
+    (c .match .rest .0 .0 .0 .0 .0 .0 .0 .0 .0 .0 .0 .0 .0 .0 .1))
+    (c .match .rest .0 .0 .0 .0 .0 .0 .0 .0 .0 .0 .0 .0 .0 .1))
+    (c .match .rest .0 .0 .0 .0 .0 .0 .0 .0 .0 .0 .0 .0 .1))
+    (c .match .rest .0 .0 .0 .0 .0 .0 .0 .0 .0 .0 .0 .1))
+    (c .match .rest .0 .0 .0 .0 .0 .0 .0 .0 .0 .0 .1))
+    (c .match .rest .0 .0 .0 .0 .0 .0 .0 .0 .0 .1))
+    (c .match .rest .0 .0 .0 .0 .0 .0 .0 .0 .1))
+    (c .match .rest .0 .0 .0 .0 .0 .0 .0 .1))
+    (c .match .rest .0 .0 .0 .0 .0 .0 .1))
+    (c .match .rest .0 .0 .0 .0 .0 .1))
+    (c .match .rest .0 .0 .0 .0 .1))
+    (c .match .rest .0 .0 .0 .1))
+    (c .match .rest .0 .0 .1))
+    (c .match .rest .0 .1))
+    (c .match .rest .1))
 
 -- src/endings.rt:28:32
 slice-aggregate-put-word : tie.Need-slice-aggregate-put-word
@@ -294,21 +330,7 @@ same-length-17 c = search needs
 -- src/endings.rt:24:1
 returns-17 : tie.Need-returns-17
 unfolding compassWords
-returns-17 c =
-    rw (no-word compassWords (c .before .before .before .before .before .before .args .direction) (past 15 (past 14 (past 13 (past 12 (past 11 (past 10
-    (past 9 (past 8 (past 7 (past 6 (past 5 (past 4 (past 3 (past 2 (past 1 (past 0 zero-le
-    (c .before .before .before .before .match .rest .0 .0 .0 .0 .0 .0 .0 .0 .0 .0 .0 .0 .0 .0 .0 .1))
-    (c .before .before .before .before .match .rest .0 .0 .0 .0 .0 .0 .0 .0 .0 .0 .0 .0 .0 .0 .1))
-    (c .before .before .before .before .match .rest .0 .0 .0 .0 .0 .0 .0 .0 .0 .0 .0 .0 .0 .1))
-    (c .before .before .before .before .match .rest .0 .0 .0 .0 .0 .0 .0 .0 .0 .0 .0 .0 .1))
-    (c .before .before .before .before .match .rest .0 .0 .0 .0 .0 .0 .0 .0 .0 .0 .0 .1))
-    (c .before .before .before .before .match .rest .0 .0 .0 .0 .0 .0 .0 .0 .0 .0 .1))
-    (c .before .before .before .before .match .rest .0 .0 .0 .0 .0 .0 .0 .0 .0 .1))
-    (c .before .before .before .before .match .rest .0 .0 .0 .0 .0 .0 .0 .0 .1)) (c .before .before .before .before .match .rest .0 .0 .0 .0 .0 .0 .0 .1))
-    (c .before .before .before .before .match .rest .0 .0 .0 .0 .0 .0 .1)) (c .before .before .before .before .match .rest .0 .0 .0 .0 .0 .1))
-    (c .before .before .before .before .match .rest .0 .0 .0 .0 .1)) (c .before .before .before .before .match .rest .0 .0 .0 .1))
-    (c .before .before .before .before .match .rest .0 .0 .1)) (c .before .before .before .before .match .rest .0 .1))
-    (c .before .before .before .before .match .rest .1))) (a-space (c .before .before .put .ensures))
+returns-17 c = rw (no-word compassWords (c .before .before .before .before .before .before .args .direction) (past-fifteen (c .before .before .before .before))) (a-space (c .before .before .put .ensures))
 
 pub put-compass-spec : {M : Type 1} → statement M
 put-compass-spec =

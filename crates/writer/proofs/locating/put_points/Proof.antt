@@ -68,13 +68,14 @@ loop-less c = search needs
 
 -- src/locating.rt:80:5
 loop-again : tie.Need-loop-again Inv-loop μ-loop
-loop-again c = (
-  point-more (c .before .before .before .before .before .before .before .before .before .before .before .before .before .before .before .before .before .before .args .t4) (c .before .before .before .before .before .before .before .before .before .before .before .loop .i) noPoint (c .before .before .before .before .before .before .before .before .before .before .before .loop .inv .1) (omega arith) (c .before .before .before .before .before .before .before .before .before .before .before .loop .inv .0) (c .before .before .before .before .before .before .before .put-word .ensures) (c .before .before .put-point2 .ensures),
-  omega arith,
-  search needs,
-  search needs,
-  c .before .before .before .before .before .before .before .before .before .before .before .loop .inv .4,
-)
+loop-again c =
+    let turn = c .before .before .before .before .before .before .before .before .before .before .before in (
+      point-more (turn .before .before .before .before .before .before .before .args .t4) (turn .loop .i) noPoint (turn .loop .inv .1) (omega arith) (turn .loop .inv .0) (c .before .before .before .before .before .before .before .put-word .ensures) (c .before .before .put-point2 .ensures),
+      omega arith,
+      search needs,
+      search needs,
+      turn .loop .inv .4,
+    )
 
 -- src/locating.rt:74:1
 same-length : tie.Need-same-length Inv-loop μ-loop
@@ -83,8 +84,9 @@ same-length c = search needs
 -- src/locating.rt:74:1
 returns : tie.Need-returns Inv-loop μ-loop
 returns c =
-    let end : c .before .loop .i ≡ c .before .before .before .before .before .before .before .before .args .count = omega arith in
-    points-joined (c .before .before .before .before .before .before .before .before .args .t4) (c .before .before .before .before .before .before .before .before .args .count) noPoint (c .before .before .before .before .before .before .before .before .pre .0) (omega arith) (c .before .before .before .before .put-point .ensures) (rw end at (c .before .loop .inv .0))
+    let start = c .before .before .before .before .before .before .before .before in
+    let end : c .before .loop .i ≡ start .args .count = omega arith in
+    points-joined (start .args .t4) (start .args .count) noPoint (start .pre .0) (omega arith) (c .before .before .before .before .put-point .ensures) (rw end at (c .before .loop .inv .0))
 
 pub put-points-spec : {M : Type 1} → statement M
 put-points-spec =

@@ -5,6 +5,7 @@ use Rattle.lists.specs.Text.{bytes}
 use Rattle.message.specs.Reports.{phenomena}
 use mathlib.Core.Logic.{inl, inr}
 use mathlib.Core.Path.{refl}
+use Prim.Native.Nat.{_≤_}
 use native.Mathlib.Omega.{arith}
 use Rattle.writer.proofs.Tables.{one-of-four, ranged, past, other-way}
 use borrow.Author.Needs.{needs}
@@ -13,6 +14,22 @@ use Rattle.writer.proofs.phenomena.put_second.Tie as tie
 use Rattle.writer.proofs.phenomena.put_second.Reads as reads
 use Rattle.writer.proofs.phenomena.put_second.Lts as lts
 use Rattle.pens.proofs.put_word.Reads as put-word-reads
+
+-- none of the numbers 1 to 9, one by one
+past-nine : (c : tie.At-match-rest) → 10 ≤ c .before .before .args .n
+past-nine c =
+    let plain = c .match .rest .0 .0 .0 .0 .0 .1 in
+    let hail = c .match .rest .0 .0 .0 .0 .1 in
+    past 9
+    (past 8
+    (past 7
+    (past 6
+    (past 5
+    (past 4
+    (past 3
+    (past 2
+    (past 1 (c .before .before .pre .0) (λ e. plain (inl e))) (λ e. hail (inl e))) (λ e. plain (inr (inl e)))) (λ e. hail (inr (inl e)))) (λ e. plain (inr (inr (inl e))))) (λ e. hail (inr (inr (inl e))))) (λ e. plain (inr (inr (inr e))))) (λ e. hail (inr (inr (inr e)))))
+    (c .match .rest .0 .0 .0 .1)
 
 -- src/phenomena.rt:38:44
 slice-aggregate-put-word : tie.Need-slice-aggregate-put-word
@@ -151,12 +168,7 @@ same-length-7 c = search needs
 -- src/phenomena.rt:33:1
 returns-7 : tie.Need-returns-7
 unfolding phenomena same
-returns-7 c =
-    rw (ranged secondWord (bytes "ICE") 10 2 (c .before .before .before .before .before .before .before .before .before .args .n) refl (past 9 (past 8
-    (past 7 (past 6 (past 5 (past 4 (past 3 (past 2 (past 1
-    (c .before .before .before .before .before .before .before .before .before .pre .0) (λ e. c .before .before .before .before .before .before .before .match .rest .0 .0 .0 .0 .0 .1 (inl e))) (λ e. c .before .before .before .before .before .before .before .match .rest .0 .0 .0 .0 .1 (inl e))) (λ e. c .before .before .before .before .before .before .before .match .rest .0 .0 .0 .0 .0 .1 (inr (inl e)))) (λ e. c .before .before .before .before .before .before .before .match .rest .0 .0 .0 .0 .1 (inr (inl e)))) (λ e. c .before .before .before .before .before .before .before .match .rest .0 .0 .0 .0 .0 .1 (inr (inr (inl e))))) (λ e. c .before .before .before .before .before .before .before .match .rest .0 .0 .0 .0 .1 (inr (inr (inl e))))) (λ e. c .before .before .before .before .before .before .before .match .rest .0 .0 .0 .0 .0 .1 (inr (inr (inr e))))) (λ e. c .before .before .before .before .before .before .before .match .rest .0 .0 .0 .0 .1 (inr (inr (inr e)))))
-    (c .before .before .before .before .before .before .before .match .rest .0 .0 .0 .1)) (c .before .before .before .before .before .if2 .taken))
-    (c .before .before .put-word7 .ensures)
+returns-7 c = rw (ranged secondWord (bytes "ICE") 10 2 (c .before .before .before .before .before .before .before .before .before .args .n) refl (past-nine (c .before .before .before .before .before .before .before)) (c .before .before .before .before .before .if2 .taken)) (c .before .before .put-word7 .ensures)
 
 -- src/phenomena.rt:33:1
 same-length-8 : tie.Need-same-length-8
