@@ -90,7 +90,14 @@ fn put_stationary(out: &mut [u8], at: usize, intensity: u8) -> usize
     put_intensity(out, next, intensity)
 }
 
-fn put_forecast(out: &mut [u8], at: usize, end: Time, closing: u8, intensity: u8, forecast: Extent) -> usize
+fn put_forecast(
+    out: &mut [u8],
+    at: usize,
+    end: Time,
+    closing: u8,
+    intensity: u8,
+    forecast: Extent,
+) -> usize
     requires { ⌜ goodExtent forecast ≡ true ⌝ }
     ensures { λ r. ⌜ Words (forecastWords end closing intensity forecast) at (now (out .entry)) r (now (out .exit)) ⌝ }
 {
@@ -100,7 +107,14 @@ fn put_forecast(out: &mut [u8], at: usize, end: Time, closing: u8, intensity: u8
     put_extent(out, c, closing, forecast)
 }
 
-pub(crate) fn put_ending(out: &mut [u8], at: usize, end: Time, closing: u8, ending: Ending, forecast: Extent) -> usize
+pub(crate) fn put_ending(
+    out: &mut [u8],
+    at: usize,
+    end: Time,
+    closing: u8,
+    ending: Ending,
+    forecast: Extent,
+) -> usize
     requires { ⌜ GoodEnding ending forecast ⌝ }
     ensures { λ r. ⌜ Words (endingWords end closing ending forecast) at (now (out .entry)) r (now (out .exit)) ⌝ }
 {

@@ -59,7 +59,9 @@ fn put_text(out: &mut [u8], r: Record) -> usize
     put(out, e, b'=')
 }
 
-fn refused(number: u8) -> Written {
+fn refused(number: u8) -> Written
+    ensures { λ r. ⌜ (r .number ≡ number) × (r .count ≡ 0) ⌝ }
+{
     Written { number, count: 0 }
 }
 

@@ -40,12 +40,11 @@ loop-less c = search needs
 
 -- src/lib.rt:26:5
 loop-again : tie.Need-loop-again Inv-loop μ-loop
-loop-again c =
-    (
-      one-more _ _ (c .before .before .before .before .before .loop-test .taken) (c .before .before .before .before .before .before .loop .inv .0) (c .before .before .put .ensures),
-      search needs,
-      search needs,
-    )
+loop-again c = (
+  one-more _ _ (c .before .before .before .before .before .loop-test .taken) (c .before .before .before .before .before .before .loop .inv .0) (c .before .before .put .ensures),
+  search needs,
+  search needs,
+)
 
 -- src/lib.rt:21:1
 same-length : tie.Need-same-length Inv-loop μ-loop

@@ -1,3 +1,6 @@
+-- `put_text` meets its contract: heading, CR LF, first line, CR LF, body and `=`, one behind the other. Assumes nothing.
+use Rattle.message.specs.Words.{textOf}
+use Rattle.pens.proofs.PenLaws.{then, line-text}
 use borrow.Author.Needs.{needs}
 use Rattle.writer.proofs.put_text.Statement.{statement}
 use Rattle.writer.proofs.put_text.Tie as tie
@@ -47,7 +50,8 @@ same-length c = search needs
 
 -- src/lib.rt:48:1
 returns : tie.Need-returns
-returns c = ?
+unfolding textOf
+returns c = then (line-text (c .before .before .before .before .before .before .before .before .before .before .before .before .before .before .before .before .before .before .before .before .before .before .before .before .put-heading .ensures)) (then (c .before .before .before .before .before .before .before .before .before .before .before .before .before .before .before .before .before .before .before .put-all .ensures) (then (line-text (c .before .before .before .before .before .before .before .before .before .before .before .before .before .before .before .put-line .ensures)) (then (c .before .before .before .before .before .before .before .before .before .before .put-all2 .ensures) (then (line-text (c .before .before .before .before .before .before .put-body .ensures)) (c .before .before .put .ensures)))))
 
 pub put-text-spec : {M : Type 1} → statement M
 put-text-spec =

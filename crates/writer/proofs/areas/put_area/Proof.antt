@@ -1,3 +1,6 @@
+-- `put_area` meets its contract: its words, one behind the other. Assumes nothing.
+use Rattle.message.specs.Words.{areaWords}
+use Rattle.pens.proofs.PenLaws.{a-line, and-then}
 use borrow.Author.Needs.{needs}
 use Rattle.writer.proofs.areas.put_area.Statement.{statement}
 use Rattle.writer.proofs.areas.put_area.Tie as tie
@@ -25,7 +28,8 @@ same-length c = search needs
 
 -- src/areas.rt:36:1
 returns : tie.Need-returns
-returns c = ?
+unfolding areaWords
+returns c = a-line (c .before .before .before .before .before .before .before .before .before .before .put-letters .ensures) (and-then (c .before .before .before .before .before .before .put-name .ensures) (c .before .before .put-closing .ensures))
 
 pub put-area-spec : {M : Type 1} → statement M
 put-area-spec =

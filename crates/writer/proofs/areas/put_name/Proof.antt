@@ -1,3 +1,9 @@
+-- `put_name` meets its contract: its text is its words with their spaces, and the space before the first. Assumes nothing.
+use lib.Seq.{length-take-le}
+use lib.ListN.{length}
+use mathlib.Core.Path.{_≡_, sym}
+use native.Mathlib.Omega.{arith}
+use Rattle.writer.proofs.SectionLaws.{name-put}
 use borrow.Author.Needs.{needs}
 use Rattle.writer.proofs.areas.put_name.Statement.{statement}
 use Rattle.writer.proofs.areas.put_name.Tie as tie
@@ -7,11 +13,11 @@ use Rattle.pens.proofs.put_word.Reads as put-word-reads
 
 -- src/areas.rt:22:23
 array-share-prefix-text : tie.Need-array-share-prefix-text
-array-share-prefix-text c = ?
+array-share-prefix-text c = let long : length (c .before .before .before .args .n .bytes) ≡ 50 = search needs in omega (arith, c .before .before .before .pre)
 
 -- src/areas.rt:22:23
 slice-aggregate-put-word : tie.Need-slice-aggregate-put-word
-slice-aggregate-put-word c = ?
+slice-aggregate-put-word c = let long : length (c .before .before .before .before .args .n .bytes) ≡ 50 = search needs in sym (length-take-le _ _ (omega (arith, c .before .before .before .before .pre)))
 
 -- src/areas.rt:22:5
 put-word-requires : tie.Need-put-word-requires
@@ -23,7 +29,7 @@ same-length c = search needs
 
 -- src/areas.rt:16:1
 returns : tie.Need-returns
-returns c = ?
+returns c = name-put (c .before .before .put-word .ensures)
 
 pub put-name-spec : {M : Type 1} → statement M
 put-name-spec =

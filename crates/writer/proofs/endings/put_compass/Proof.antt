@@ -1,3 +1,8 @@
+-- `put_compass` meets its contract: each number has its word, and from 16 on there is none. Assumes nothing.
+use Rattle.motions.specs.Motions.{compassWords}
+use Prim.Native.Nat.{zero-le}
+use Rattle.writer.proofs.Tables.{no-word, past}
+use Rattle.pens.proofs.PenLaws.{a-space}
 use borrow.Author.Needs.{needs}
 use Rattle.writer.proofs.endings.put_compass.Statement.{statement}
 use Rattle.writer.proofs.endings.put_compass.Tie as tie
@@ -144,7 +149,8 @@ same-length c = search needs
 
 -- src/endings.rt:24:1
 returns : tie.Need-returns
-returns c = ?
+unfolding compassWords
+returns c = rw (c .before .before .before .before .before .match .keys1) (c .before .before .put-word .ensures)
 
 -- src/endings.rt:24:1
 same-length-2 : tie.Need-same-length-2
@@ -152,7 +158,8 @@ same-length-2 c = search needs
 
 -- src/endings.rt:24:1
 returns-2 : tie.Need-returns-2
-returns-2 c = ?
+unfolding compassWords
+returns-2 c = rw (c .before .before .before .before .before .match .keys2) (c .before .before .put-word2 .ensures)
 
 -- src/endings.rt:24:1
 same-length-3 : tie.Need-same-length-3
@@ -160,7 +167,8 @@ same-length-3 c = search needs
 
 -- src/endings.rt:24:1
 returns-3 : tie.Need-returns-3
-returns-3 c = ?
+unfolding compassWords
+returns-3 c = rw (c .before .before .before .before .before .match .keys3) (c .before .before .put-word3 .ensures)
 
 -- src/endings.rt:24:1
 same-length-4 : tie.Need-same-length-4
@@ -168,7 +176,8 @@ same-length-4 c = search needs
 
 -- src/endings.rt:24:1
 returns-4 : tie.Need-returns-4
-returns-4 c = ?
+unfolding compassWords
+returns-4 c = rw (c .before .before .before .before .before .match .keys4) (c .before .before .put-word4 .ensures)
 
 -- src/endings.rt:24:1
 same-length-5 : tie.Need-same-length-5
@@ -176,7 +185,8 @@ same-length-5 c = search needs
 
 -- src/endings.rt:24:1
 returns-5 : tie.Need-returns-5
-returns-5 c = ?
+unfolding compassWords
+returns-5 c = rw (c .before .before .before .before .before .match .keys5) (c .before .before .put-word5 .ensures)
 
 -- src/endings.rt:24:1
 same-length-6 : tie.Need-same-length-6
@@ -184,7 +194,8 @@ same-length-6 c = search needs
 
 -- src/endings.rt:24:1
 returns-6 : tie.Need-returns-6
-returns-6 c = ?
+unfolding compassWords
+returns-6 c = rw (c .before .before .before .before .before .match .keys6) (c .before .before .put-word6 .ensures)
 
 -- src/endings.rt:24:1
 same-length-7 : tie.Need-same-length-7
@@ -192,7 +203,8 @@ same-length-7 c = search needs
 
 -- src/endings.rt:24:1
 returns-7 : tie.Need-returns-7
-returns-7 c = ?
+unfolding compassWords
+returns-7 c = rw (c .before .before .before .before .before .match .keys7) (c .before .before .put-word7 .ensures)
 
 -- src/endings.rt:24:1
 same-length-8 : tie.Need-same-length-8
@@ -200,7 +212,8 @@ same-length-8 c = search needs
 
 -- src/endings.rt:24:1
 returns-8 : tie.Need-returns-8
-returns-8 c = ?
+unfolding compassWords
+returns-8 c = rw (c .before .before .before .before .before .match .keys8) (c .before .before .put-word8 .ensures)
 
 -- src/endings.rt:24:1
 same-length-9 : tie.Need-same-length-9
@@ -208,7 +221,8 @@ same-length-9 c = search needs
 
 -- src/endings.rt:24:1
 returns-9 : tie.Need-returns-9
-returns-9 c = ?
+unfolding compassWords
+returns-9 c = rw (c .before .before .before .before .before .match .keys9) (c .before .before .put-word9 .ensures)
 
 -- src/endings.rt:24:1
 same-length-10 : tie.Need-same-length-10
@@ -216,7 +230,8 @@ same-length-10 c = search needs
 
 -- src/endings.rt:24:1
 returns-10 : tie.Need-returns-10
-returns-10 c = ?
+unfolding compassWords
+returns-10 c = rw (c .before .before .before .before .before .match .keys10) (c .before .before .put-word10 .ensures)
 
 -- src/endings.rt:24:1
 same-length-11 : tie.Need-same-length-11
@@ -224,7 +239,8 @@ same-length-11 c = search needs
 
 -- src/endings.rt:24:1
 returns-11 : tie.Need-returns-11
-returns-11 c = ?
+unfolding compassWords
+returns-11 c = rw (c .before .before .before .before .before .match .keys11) (c .before .before .put-word11 .ensures)
 
 -- src/endings.rt:24:1
 same-length-12 : tie.Need-same-length-12
@@ -232,7 +248,8 @@ same-length-12 c = search needs
 
 -- src/endings.rt:24:1
 returns-12 : tie.Need-returns-12
-returns-12 c = ?
+unfolding compassWords
+returns-12 c = rw (c .before .before .before .before .before .match .keys12) (c .before .before .put-word12 .ensures)
 
 -- src/endings.rt:24:1
 same-length-13 : tie.Need-same-length-13
@@ -240,7 +257,8 @@ same-length-13 c = search needs
 
 -- src/endings.rt:24:1
 returns-13 : tie.Need-returns-13
-returns-13 c = ?
+unfolding compassWords
+returns-13 c = rw (c .before .before .before .before .before .match .keys13) (c .before .before .put-word13 .ensures)
 
 -- src/endings.rt:24:1
 same-length-14 : tie.Need-same-length-14
@@ -248,7 +266,8 @@ same-length-14 c = search needs
 
 -- src/endings.rt:24:1
 returns-14 : tie.Need-returns-14
-returns-14 c = ?
+unfolding compassWords
+returns-14 c = rw (c .before .before .before .before .before .match .keys14) (c .before .before .put-word14 .ensures)
 
 -- src/endings.rt:24:1
 same-length-15 : tie.Need-same-length-15
@@ -256,7 +275,8 @@ same-length-15 c = search needs
 
 -- src/endings.rt:24:1
 returns-15 : tie.Need-returns-15
-returns-15 c = ?
+unfolding compassWords
+returns-15 c = rw (c .before .before .before .before .before .match .keys15) (c .before .before .put-word15 .ensures)
 
 -- src/endings.rt:24:1
 same-length-16 : tie.Need-same-length-16
@@ -264,7 +284,8 @@ same-length-16 c = search needs
 
 -- src/endings.rt:24:1
 returns-16 : tie.Need-returns-16
-returns-16 c = ?
+unfolding compassWords
+returns-16 c = rw (c .before .before .before .before .before .match .keys16) (c .before .before .put-word16 .ensures)
 
 -- src/endings.rt:24:1
 same-length-17 : tie.Need-same-length-17
@@ -272,7 +293,8 @@ same-length-17 c = search needs
 
 -- src/endings.rt:24:1
 returns-17 : tie.Need-returns-17
-returns-17 c = ?
+unfolding compassWords
+returns-17 c = rw (no-word compassWords (c .before .before .before .before .before .before .args .direction) (past 15 (past 14 (past 13 (past 12 (past 11 (past 10 (past 9 (past 8 (past 7 (past 6 (past 5 (past 4 (past 3 (past 2 (past 1 (past 0 zero-le (c .before .before .before .before .match .rest .0 .0 .0 .0 .0 .0 .0 .0 .0 .0 .0 .0 .0 .0 .0 .1)) (c .before .before .before .before .match .rest .0 .0 .0 .0 .0 .0 .0 .0 .0 .0 .0 .0 .0 .0 .1)) (c .before .before .before .before .match .rest .0 .0 .0 .0 .0 .0 .0 .0 .0 .0 .0 .0 .0 .1)) (c .before .before .before .before .match .rest .0 .0 .0 .0 .0 .0 .0 .0 .0 .0 .0 .0 .1)) (c .before .before .before .before .match .rest .0 .0 .0 .0 .0 .0 .0 .0 .0 .0 .0 .1)) (c .before .before .before .before .match .rest .0 .0 .0 .0 .0 .0 .0 .0 .0 .0 .1)) (c .before .before .before .before .match .rest .0 .0 .0 .0 .0 .0 .0 .0 .0 .1)) (c .before .before .before .before .match .rest .0 .0 .0 .0 .0 .0 .0 .0 .1)) (c .before .before .before .before .match .rest .0 .0 .0 .0 .0 .0 .0 .1)) (c .before .before .before .before .match .rest .0 .0 .0 .0 .0 .0 .1)) (c .before .before .before .before .match .rest .0 .0 .0 .0 .0 .1)) (c .before .before .before .before .match .rest .0 .0 .0 .0 .1)) (c .before .before .before .before .match .rest .0 .0 .0 .1)) (c .before .before .before .before .match .rest .0 .0 .1)) (c .before .before .before .before .match .rest .0 .1)) (c .before .before .before .before .match .rest .1))) (a-space (c .before .before .put .ensures))
 
 pub put-compass-spec : {M : Type 1} → statement M
 put-compass-spec =

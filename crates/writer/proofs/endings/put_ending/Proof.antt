@@ -1,3 +1,7 @@
+-- `put_ending` meets its contract: each ending has its words. Assumes nothing.
+use Rattle.message.specs.Reports.{endingWords}
+use Rattle.writer.proofs.WriteLaws.{forecast-good}
+use Rattle.pens.proofs.PenLaws.{no-words}
 use borrow.Author.Needs.{needs}
 use Rattle.writer.proofs.endings.put_ending.Statement.{statement}
 use Rattle.writer.proofs.endings.put_ending.Tie as tie
@@ -33,11 +37,12 @@ enum-known-ending-3 c = search needs
 
 -- src/endings.rt:111:40
 put-forecast-requires : tie.Need-put-forecast-requires
-put-forecast-requires c κs = ?
+put-forecast-requires c κs = forecast-good (c .before .before .before .before .before .args .ending) (c .before .before .before .before .before .args .forecast) _ (c .before .before .before .before .before .pre) (c .before .before .ending3 .given .1)
 
 -- src/endings.rt:103:1
 returns : tie.Need-returns
-returns c = ?
+unfolding endingWords
+returns c = rw (c .enum-told .given .1) no-words
 
 -- src/endings.rt:103:1
 same-length : tie.Need-same-length
@@ -45,7 +50,8 @@ same-length c = search needs
 
 -- src/endings.rt:103:1
 returns-2 : tie.Need-returns-2
-returns-2 c = ?
+unfolding endingWords
+returns-2 c = rw (c .before .before .before .before .before .ending .given .1) (c .before .before .put-moving .ensures)
 
 -- src/endings.rt:103:1
 same-length-2 : tie.Need-same-length-2
@@ -53,7 +59,8 @@ same-length-2 c = search needs
 
 -- src/endings.rt:103:1
 returns-3 : tie.Need-returns-3
-returns-3 c = ?
+unfolding endingWords
+returns-3 c = rw (c .before .before .before .before .before .ending2 .given .1) (c .before .before .put-stationary .ensures)
 
 -- src/endings.rt:103:1
 same-length-3 : tie.Need-same-length-3
@@ -61,7 +68,8 @@ same-length-3 c = search needs
 
 -- src/endings.rt:103:1
 returns-4 : tie.Need-returns-4
-returns-4 c = ?
+unfolding endingWords
+returns-4 c = rw (c .before .before .before .before .before .ending3 .given .1) (c .before .before .put-forecast .ensures)
 
 pub put-ending-spec : {M : Type 1} → statement M
 put-ending-spec =

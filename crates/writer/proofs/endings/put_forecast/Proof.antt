@@ -1,3 +1,6 @@
+-- `put_forecast` meets its contract: its words, one behind the other. Assumes nothing.
+use Rattle.lists.specs.Text.{bytes}
+use Rattle.pens.proofs.PenLaws.{and-then, split-word}
 use borrow.Author.Needs.{needs}
 use Rattle.writer.proofs.endings.put_forecast.Statement.{statement}
 use Rattle.writer.proofs.endings.put_forecast.Tie as tie
@@ -34,7 +37,7 @@ same-length c = search needs
 
 -- src/endings.rt:93:1
 returns : tie.Need-returns
-returns c = ?
+returns c = and-then (c .before .before .before .before .before .before .before .before .before .before .before .before .before .before .before .put-intensity .ensures) (and-then (split-word (bytes "FCST") (bytes "AT") (c .before .before .before .before .before .before .before .before .before .before .put-word .ensures)) (and-then (c .before .before .before .before .before .before .put-time .ensures) (c .before .before .put-extent .ensures)))
 
 pub put-forecast-spec : {M : Type 1} → statement M
 put-forecast-spec =

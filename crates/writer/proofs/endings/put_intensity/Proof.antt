@@ -1,3 +1,8 @@
+-- `put_intensity` meets its contract: each number has its word, and no other number has one. Assumes nothing.
+use Rattle.motions.specs.Motions.{intensityWords}
+use native.Mathlib.Omega.{arith}
+use Rattle.writer.proofs.Tables.{unnumbered}
+use Rattle.pens.proofs.PenLaws.{a-space}
 use borrow.Author.Needs.{needs}
 use Rattle.writer.proofs.endings.put_intensity.Statement.{statement}
 use Rattle.writer.proofs.endings.put_intensity.Tie as tie
@@ -40,7 +45,8 @@ same-length c = search needs
 
 -- src/endings.rt:48:1
 returns : tie.Need-returns
-returns c = ?
+unfolding intensityWords
+returns c = rw (c .before .before .before .before .before .match .keys1) (c .before .before .put-word .ensures)
 
 -- src/endings.rt:48:1
 same-length-2 : tie.Need-same-length-2
@@ -48,7 +54,8 @@ same-length-2 c = search needs
 
 -- src/endings.rt:48:1
 returns-2 : tie.Need-returns-2
-returns-2 c = ?
+unfolding intensityWords
+returns-2 c = rw (c .before .before .before .before .before .match .keys2) (c .before .before .put-word2 .ensures)
 
 -- src/endings.rt:48:1
 same-length-3 : tie.Need-same-length-3
@@ -56,7 +63,8 @@ same-length-3 c = search needs
 
 -- src/endings.rt:48:1
 returns-3 : tie.Need-returns-3
-returns-3 c = ?
+unfolding intensityWords
+returns-3 c = rw (c .before .before .before .before .before .match .keys3) (c .before .before .put-word3 .ensures)
 
 -- src/endings.rt:48:1
 same-length-4 : tie.Need-same-length-4
@@ -64,7 +72,8 @@ same-length-4 c = search needs
 
 -- src/endings.rt:48:1
 returns-4 : tie.Need-returns-4
-returns-4 c = ?
+unfolding intensityWords
+returns-4 c = rw (unnumbered 1 intensityWords (c .before .before .before .before .before .before .args .n) (λ low. omega (arith, c .before .before .before .before .match .rest .1, c .before .before .before .before .match .rest .0 .1, c .before .before .before .before .match .rest .0 .0 .1))) (a-space (c .before .before .put .ensures))
 
 pub put-intensity-spec : {M : Type 1} → statement M
 put-intensity-spec =

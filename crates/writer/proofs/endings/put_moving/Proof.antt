@@ -1,3 +1,5 @@
+-- `put_moving` meets its contract: its words, one behind the other. Assumes nothing.
+use Rattle.pens.proofs.PenLaws.{and-then}
 use borrow.Author.Needs.{needs}
 use Rattle.writer.proofs.endings.put_moving.Statement.{statement}
 use Rattle.writer.proofs.endings.put_moving.Tie as tie
@@ -34,7 +36,7 @@ same-length c = search needs
 
 -- src/endings.rt:77:1
 returns : tie.Need-returns
-returns c = ?
+returns c = and-then (c .before .before .before .before .before .before .before .before .before .before .before .before .before .before .put-word .ensures) (and-then (c .before .before .before .before .before .before .before .before .before .before .put-compass .ensures) (and-then (c .before .before .before .before .before .before .put-speed .ensures) (c .before .before .put-intensity .ensures)))
 
 pub put-moving-spec : {M : Type 1} → statement M
 put-moving-spec =

@@ -1,3 +1,6 @@
+-- `put_speed` meets its contract: figures and unit go on from the space. Assumes nothing.
+use Rattle.motions.specs.Speeds.{spellSpeed}
+use Rattle.pens.proofs.PenLaws.{then, a-space, goes-on}
 use borrow.Author.Needs.{needs}
 use Rattle.writer.proofs.endings.put_speed.Statement.{statement}
 use Rattle.writer.proofs.endings.put_speed.Tie as tie
@@ -29,7 +32,8 @@ same-length c = search needs
 
 -- src/endings.rt:69:1
 returns : tie.Need-returns
-returns c = ?
+unfolding spellSpeed
+returns c = goes-on (a-space (c .before .before .before .before .before .before .before .before .before .before .before .put .ensures)) (then (c .before .before .before .before .before .before .put-figures .ensures) (c .before .before .put-unit .ensures))
 
 pub put-speed-spec : {M : Type 1} → statement M
 put-speed-spec =

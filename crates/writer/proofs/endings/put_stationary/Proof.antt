@@ -1,3 +1,5 @@
+-- `put_stationary` meets its contract: its words, one behind the other. Assumes nothing.
+use Rattle.pens.proofs.PenLaws.{and-then}
 use borrow.Author.Needs.{needs}
 use Rattle.writer.proofs.endings.put_stationary.Statement.{statement}
 use Rattle.writer.proofs.endings.put_stationary.Tie as tie
@@ -24,7 +26,7 @@ same-length c = search needs
 
 -- src/endings.rt:86:1
 returns : tie.Need-returns
-returns c = ?
+returns c = and-then (c .before .before .before .before .before .before .put-word .ensures) (c .before .before .put-intensity .ensures)
 
 pub put-stationary-spec : {M : Type 1} → statement M
 put-stationary-spec =

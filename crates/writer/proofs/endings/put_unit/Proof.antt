@@ -1,3 +1,8 @@
+-- `put_unit` meets its contract: each unit has its word, and no other number has one. Assumes nothing.
+use Rattle.motions.specs.Speeds.{unitWords}
+use native.Mathlib.Omega.{arith}
+use Rattle.writer.proofs.Tables.{unnumbered}
+use Rattle.pens.proofs.PenLaws.{nothing}
 use borrow.Author.Needs.{needs}
 use Rattle.writer.proofs.endings.put_unit.Statement.{statement}
 use Rattle.writer.proofs.endings.put_unit.Tie as tie
@@ -27,7 +32,8 @@ same-length c = search needs
 
 -- src/endings.rt:59:1
 returns : tie.Need-returns
-returns c = ?
+unfolding unitWords
+returns c = rw (c .before .before .before .before .before .match .keys1) (c .before .before .put-all .ensures)
 
 -- src/endings.rt:59:1
 same-length-2 : tie.Need-same-length-2
@@ -35,11 +41,13 @@ same-length-2 c = search needs
 
 -- src/endings.rt:59:1
 returns-2 : tie.Need-returns-2
-returns-2 c = ?
+unfolding unitWords
+returns-2 c = rw (c .before .before .before .before .before .match .keys2) (c .before .before .put-all2 .ensures)
 
 -- src/endings.rt:59:1
 returns-3 : tie.Need-returns-3
-returns-3 c = ?
+unfolding unitWords
+returns-3 c = rw (unnumbered 1 unitWords (c .before .before .args .n) (λ low. omega (arith, c .match .rest .1, c .match .rest .0 .1))) nothing
 
 pub put-unit-spec : {M : Type 1} → statement M
 put-unit-spec =

@@ -1,3 +1,6 @@
+-- `put_cancellation` meets its contract: its words, one behind the other. Assumes nothing.
+use Rattle.lists.specs.Text.{bytes}
+use Rattle.pens.proofs.PenLaws.{and-then, split-word}
 use borrow.Author.Needs.{needs}
 use Rattle.writer.proofs.forms.put_cancellation.Statement.{statement}
 use Rattle.writer.proofs.forms.put_cancellation.Tie as tie
@@ -29,7 +32,7 @@ same-length c = search needs
 
 -- src/forms.rt:31:1
 returns : tie.Need-returns
-returns c = ?
+returns c = and-then (split-word (bytes "CNL") (bytes "SIGMET") (c .before .before .before .before .before .before .before .before .before .before .put-word .ensures)) (and-then (c .before .before .before .before .before .before .put-sequence .ensures) (c .before .before .put-period .ensures))
 
 pub put-cancellation-spec : {M : Type 1} → statement M
 put-cancellation-spec =

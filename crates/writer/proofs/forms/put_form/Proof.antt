@@ -1,3 +1,7 @@
+-- `put_form` meets its contract: each form has its words. Assumes nothing.
+use Rattle.message.specs.Words.{formWords}
+use Rattle.writer.proofs.WriteLaws.{test-number, reported}
+use Rattle.pens.proofs.PenLaws.{no-words}
 use borrow.Author.Needs.{needs}
 use Rattle.writer.proofs.forms.put_form.Statement.{statement}
 use Rattle.writer.proofs.forms.put_form.Tie as tie
@@ -17,7 +21,7 @@ enum-known-form c = search needs
 
 -- src/forms.rt:57:26
 put-test-requires : tie.Need-put-test-requires
-put-test-requires c κs = ?
+put-test-requires c κs = test-number (c .before .before .before .before .before .before .before .before .before .before .args .r) _ (c .before .before .before .before .before .before .before .before .before .before .pre) (c .before .before .form .given .1)
 
 -- src/forms.rt:58:28
 enum-known-form-2 : tie.Need-enum-known-form-2
@@ -33,11 +37,12 @@ enum-told-2 c = search needs
 
 -- src/forms.rt:59:27
 put-report-requires : tie.Need-put-report-requires
-put-report-requires c κs = ?
+put-report-requires c κs = reported (c .before .before .before .before .before .before .before .before .before .args .r) (c .before .before .before .before .before .before .before .before .before .pre) (c .before .enum-told2 .given .1)
 
 -- src/forms.rt:41:1
 returns : tie.Need-returns
-returns c = ?
+unfolding formWords
+returns c = rw (c .enum-told .given .1) no-words
 
 -- src/forms.rt:41:1
 same-length : tie.Need-same-length
@@ -45,7 +50,8 @@ same-length c = search needs
 
 -- src/forms.rt:41:1
 returns-2 : tie.Need-returns-2
-returns-2 c = ?
+unfolding formWords
+returns-2 c = rw (c .before .before .before .before .before .form .given .1) (c .before .before .put-test .ensures)
 
 -- src/forms.rt:41:1
 same-length-2 : tie.Need-same-length-2
@@ -53,7 +59,8 @@ same-length-2 c = search needs
 
 -- src/forms.rt:41:1
 returns-3 : tie.Need-returns-3
-returns-3 c = ?
+unfolding formWords
+returns-3 c = rw (c .before .before .before .before .before .form2 .given .1) (c .before .before .put-cancellation .ensures)
 
 -- src/forms.rt:41:1
 same-length-3 : tie.Need-same-length-3
@@ -61,7 +68,8 @@ same-length-3 c = search needs
 
 -- src/forms.rt:41:1
 returns-4 : tie.Need-returns-4
-returns-4 c = ?
+unfolding formWords
+returns-4 c = rw (c .before .before .before .before .enum-told2 .given .1) (c .before .before .put-report .ensures)
 
 pub put-form-spec : {M : Type 1} → statement M
 put-form-spec =

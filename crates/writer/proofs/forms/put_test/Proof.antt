@@ -1,3 +1,8 @@
+-- `put_test` meets its contract: each number has its text, parted at its spaces. Assumes nothing.
+use Rattle.pens.specs.Pens.{spaced}
+use Rattle.message.specs.Words.{testTexts}
+use mathlib.Core.Path.{_≡_}
+use native.Mathlib.Omega.{arith}
 use borrow.Author.Needs.{needs}
 use Rattle.writer.proofs.forms.put_test.Statement.{statement}
 use Rattle.writer.proofs.forms.put_test.Tie as tie
@@ -35,7 +40,8 @@ same-length c = search needs
 
 -- src/forms.rt:20:1
 returns : tie.Need-returns
-returns c = ?
+unfolding testTexts
+returns c = rw (c .before .before .before .before .before .match .keys1) (c .before .before .put-word .ensures)
 
 -- src/forms.rt:20:1
 same-length-2 : tie.Need-same-length-2
@@ -43,7 +49,8 @@ same-length-2 c = search needs
 
 -- src/forms.rt:20:1
 returns-2 : tie.Need-returns-2
-returns-2 c = ?
+unfolding testTexts spaced
+returns-2 c = rw (c .before .before .before .before .before .match .keys2) (record { says = c .before .before .put-word2 .ensures .says })
 
 -- src/forms.rt:20:1
 same-length-3 : tie.Need-same-length-3
@@ -51,7 +58,8 @@ same-length-3 c = search needs
 
 -- src/forms.rt:20:1
 returns-3 : tie.Need-returns-3
-returns-3 c = ?
+unfolding testTexts spaced
+returns-3 c = let e : c .before .before .before .before .before .before .before .args .n ≡ 3 = omega (arith, c .before .before .before .before .before .before .before .pre .0, c .before .before .before .before .before .before .before .pre .1, c .before .before .before .before .before .match .rest .1, c .before .before .before .before .before .match .rest .0 .1) in rw e (record { says = c .before .before .put-word3 .ensures .says })
 
 pub put-test-spec : {M : Type 1} → statement M
 put-test-spec =

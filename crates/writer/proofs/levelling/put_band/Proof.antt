@@ -1,3 +1,5 @@
+-- `put_band` meets its contract: `/` and three figures go on from the lower level. Assumes nothing.
+use Rattle.pens.proofs.PenLaws.{then, goes-on}
 use borrow.Author.Needs.{needs}
 use Rattle.writer.proofs.levelling.put_band.Statement.{statement}
 use Rattle.writer.proofs.levelling.put_band.Tie as tie
@@ -29,7 +31,7 @@ same-length c = search needs
 
 -- src/levelling.rt:30:1
 returns : tie.Need-returns
-returns c = ?
+returns c = goes-on (c .before .before .before .before .before .before .before .before .before .before .put-flight .ensures) (then (c .before .before .before .before .before .before .put .ensures) (c .before .before .put-figures .ensures))
 
 pub put-band-spec : {M : Type 1} → statement M
 put-band-spec =

@@ -1,3 +1,5 @@
+-- `put_flight` meets its contract: three figures go on from what stands before. Assumes nothing.
+use Rattle.pens.proofs.PenLaws.{goes-on}
 use borrow.Author.Needs.{needs}
 use Rattle.writer.proofs.levelling.put_flight.Statement.{statement}
 use Rattle.writer.proofs.levelling.put_flight.Tie as tie
@@ -20,7 +22,7 @@ same-length c = search needs
 
 -- src/levelling.rt:23:1
 returns : tie.Need-returns
-returns c = ?
+returns c = goes-on (c .before .before .before .before .before .before .put-word .ensures) (c .before .before .put-figures .ensures)
 
 pub put-flight-spec : {M : Type 1} → statement M
 put-flight-spec = tie.close (tie.spec put-word-requires put-figures-requires same-length returns)

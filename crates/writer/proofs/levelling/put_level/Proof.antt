@@ -1,3 +1,7 @@
+-- `put_level` meets its contract: each level has its words, put as one text where they are two or three. Assumes nothing.
+use Rattle.pens.specs.Pens.{spaced}
+use Rattle.levels.specs.Levels.{levelWords, spellLevelWord}
+use Rattle.pens.proofs.PenLaws.{no-words}
 use borrow.Author.Needs.{needs}
 use Rattle.writer.proofs.levelling.put_level.Statement.{statement}
 use Rattle.writer.proofs.levelling.put_level.Tie as tie
@@ -118,7 +122,8 @@ put-flight-requires-5 c κs = search needs
 
 -- src/levelling.rt:48:1
 returns : tie.Need-returns
-returns c = ?
+unfolding levelWords spellLevelWord
+returns c = rw (c .enum-told .given .1) no-words
 
 -- src/levelling.rt:48:1
 same-length : tie.Need-same-length
@@ -126,7 +131,8 @@ same-length c = search needs
 
 -- src/levelling.rt:48:1
 returns-2 : tie.Need-returns-2
-returns-2 c = ?
+unfolding levelWords spellLevelWord
+returns-2 c = rw (c .before .before .before .before .before .before .level .given .1) (c .before .before .put-flight .ensures)
 
 -- src/levelling.rt:48:1
 same-length-2 : tie.Need-same-length-2
@@ -134,7 +140,8 @@ same-length-2 c = search needs
 
 -- src/levelling.rt:48:1
 returns-3 : tie.Need-returns-3
-returns-3 c = ?
+unfolding levelWords spellLevelWord
+returns-3 c = rw (c .before .before .before .before .before .before .level2 .given .1) (c .before .before .put-flight2 .ensures)
 
 -- src/levelling.rt:48:1
 same-length-3 : tie.Need-same-length-3
@@ -142,7 +149,8 @@ same-length-3 c = search needs
 
 -- src/levelling.rt:48:1
 returns-4 : tie.Need-returns-4
-returns-4 c = ?
+unfolding levelWords spellLevelWord
+returns-4 c = rw (c .before .before .before .before .before .before .before .level3 .given .1) (c .before .before .put-measured .ensures)
 
 -- src/levelling.rt:48:1
 same-length-4 : tie.Need-same-length-4
@@ -150,7 +158,8 @@ same-length-4 c = search needs
 
 -- src/levelling.rt:48:1
 returns-5 : tie.Need-returns-5
-returns-5 c = ?
+unfolding levelWords spellLevelWord
+returns-5 c = rw (c .before .before .before .before .before .before .before .before .level4 .given .1, ← (c .before .before .before .before .feet-figures .ensures)) (c .before .before .put-measured2 .ensures)
 
 -- src/levelling.rt:48:1
 same-length-5 : tie.Need-same-length-5
@@ -158,7 +167,8 @@ same-length-5 c = search needs
 
 -- src/levelling.rt:48:1
 returns-6 : tie.Need-returns-6
-returns-6 c = ?
+unfolding levelWords spellLevelWord
+returns-6 c = rw (c .before .before .before .before .before .level5 .given .1) (c .before .before .put-band .ensures)
 
 -- src/levelling.rt:48:1
 same-length-6 : tie.Need-same-length-6
@@ -166,7 +176,8 @@ same-length-6 c = search needs
 
 -- src/levelling.rt:48:1
 returns-7 : tie.Need-returns-7
-returns-7 c = ?
+unfolding levelWords spellLevelWord spaced
+returns-7 c = rw (c .before .before .before .before .before .before .level6 .given .1) (record { says = c .before .before .put-flight3 .ensures .says })
 
 -- src/levelling.rt:48:1
 same-length-7 : tie.Need-same-length-7
@@ -174,7 +185,8 @@ same-length-7 c = search needs
 
 -- src/levelling.rt:48:1
 returns-8 : tie.Need-returns-8
-returns-8 c = ?
+unfolding levelWords spellLevelWord spaced
+returns-8 c = rw (c .before .before .before .before .before .before .level7 .given .1) (record { says = c .before .before .put-flight4 .ensures .says })
 
 -- src/levelling.rt:48:1
 same-length-8 : tie.Need-same-length-8
@@ -182,7 +194,8 @@ same-length-8 c = search needs
 
 -- src/levelling.rt:48:1
 returns-9 : tie.Need-returns-9
-returns-9 c = ?
+unfolding levelWords spellLevelWord spaced
+returns-9 c = rw (c .before .before .before .before .before .before .level8 .given .1) (record { says = c .before .before .put-flight5 .ensures .says })
 
 pub put-level-spec : {M : Type 1} → statement M
 put-level-spec =

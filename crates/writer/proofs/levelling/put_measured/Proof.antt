@@ -1,3 +1,5 @@
+-- `put_measured` meets its contract: figures and unit go on from what stands before. Assumes nothing.
+use Rattle.pens.proofs.PenLaws.{then, goes-on}
 use borrow.Author.Needs.{needs}
 use Rattle.writer.proofs.levelling.put_measured.Statement.{statement}
 use Rattle.writer.proofs.levelling.put_measured.Tie as tie
@@ -25,7 +27,7 @@ same-length c = search needs
 
 -- src/levelling.rt:15:1
 returns : tie.Need-returns
-returns c = ?
+returns c = goes-on (c .before .before .before .before .before .before .before .before .before .before .put-word .ensures) (then (c .before .before .before .before .before .before .put-figures .ensures) (c .before .before .put-all .ensures))
 
 pub put-measured-spec : {M : Type 1} → statement M
 put-measured-spec =

@@ -1,3 +1,8 @@
+-- `put_bound` meets its contract: a latitude, a longitude or both; a side without a letter is none. Assumes nothing.
+use Rattle.coordinates.specs.Coordinates.{spellCoordinate}
+use Rattle.message.specs.Locations.{boundWords}
+use Rattle.writer.proofs.SectionLaws.{a-side, no-latitude, no-longitude}
+use Rattle.pens.proofs.PenLaws.{and-then}
 use borrow.Author.Needs.{needs}
 use Rattle.writer.proofs.locating.put_bound.Statement.{statement}
 use Rattle.writer.proofs.locating.put_bound.Tie as tie
@@ -16,7 +21,8 @@ same-length c = search needs
 
 -- src/locating.rt:63:9
 returns : tie.Need-returns
-returns c = ?
+unfolding boundWords spellCoordinate
+returns c = rw (no-latitude (c .before .before .before .before .before .before .before .before .before .args .b) (c .before .before .before .before .before .before .before .before .before .pre) (c .before .before .before .before .if1 .taken)) (c .before .before .put-side .ensures)
 
 -- src/locating.rt:65:9
 put-side-requires-2 : tie.Need-put-side-requires-2
@@ -28,7 +34,8 @@ same-length-2 c = search needs
 
 -- src/locating.rt:67:9
 returns-2 : tie.Need-returns-2
-returns-2 c = ?
+unfolding boundWords spellCoordinate
+returns-2 c = rw (a-side (c .before .before .before .before .before .before .before .before .before .before .before .args .b .latitude) (c .before .before .before .before .before .before .if1 .left), no-longitude (c .before .before .before .before .before .before .before .before .before .before .before .args .b) (c .before .before .before .before .before .before .before .before .before .before .before .pre) (c .before .before .before .before .before .before .if1 .left) (c .if2 .taken)) (c .before .before .before .before .put-side2 .ensures)
 
 -- src/locating.rt:69:35
 slice-aggregate-put-word : tie.Need-slice-aggregate-put-word
@@ -48,7 +55,8 @@ same-length-3 c = search needs
 
 -- src/locating.rt:56:1
 returns-3 : tie.Need-returns-3
-returns-3 c = ?
+unfolding boundWords spellCoordinate
+returns-3 c = rw (a-side (c .before .before .before .before .before .before .before .before .before .before .before .before .before .before .before .before .before .before .before .before .args .b .latitude) (c .before .before .before .before .before .before .before .before .before .before .before .before .before .before .before .if1 .left), a-side (c .before .before .before .before .before .before .before .before .before .before .before .before .before .before .before .before .before .before .before .before .args .b .longitude) (c .before .before .before .before .before .before .before .before .before .if2 .left)) (and-then (c .before .before .before .before .before .before .before .before .before .before .before .before .before .put-side2 .ensures) (and-then (c .before .before .before .before .before .before .put-word .ensures) (c .before .before .put-side3 .ensures)))
 
 pub put-bound-spec : {M : Type 1} → statement M
 put-bound-spec =

@@ -1,3 +1,8 @@
+-- `put_coordinate` meets its contract: letter and figures go on from the space; minutes where they were written. Assumes nothing.
+use Rattle.coordinates.specs.Coordinates.{spellCoordinate}
+use borrow.Author.Tests.{eq-eqb, ne-eqb}
+use mathlib.Core.List.{append-nil}
+use Rattle.pens.proofs.PenLaws.{then, a-space, goes-on}
 use borrow.Author.Needs.{needs}
 use Rattle.writer.proofs.locating.put_coordinate.Statement.{statement}
 use Rattle.writer.proofs.locating.put_coordinate.Tie as tie
@@ -28,7 +33,8 @@ same-length c = search needs
 
 -- src/locating.rt:31:9
 returns : tie.Need-returns
-returns c = ?
+unfolding spellCoordinate
+returns c = rw (eq-eqb _ _ (c .if1 .taken), append-nil) (goes-on (a-space (c .before .before .before .before .before .before .before .before .before .before .before .before .before .put .ensures)) (then (c .before .before .before .before .before .before .before .before .before .put2 .ensures) (c .before .before .before .before .put-figures .ensures)))
 
 -- src/locating.rt:33:25
 cast-put-figures-2 : tie.Need-cast-put-figures-2
@@ -44,7 +50,8 @@ same-length-2 c = search needs
 
 -- src/locating.rt:24:1
 returns-2 : tie.Need-returns-2
-returns-2 c = ?
+unfolding spellCoordinate
+returns-2 c = rw (ne-eqb _ _ (c .before .before .before .before .before .if1 .left)) (goes-on (a-space (c .before .before .before .before .before .before .before .before .before .before .before .before .before .before .before .before .before .before .put .ensures)) (then (c .before .before .before .before .before .before .before .before .before .before .before .before .before .before .put2 .ensures) (then (c .before .before .before .before .before .before .before .before .before .put-figures .ensures) (c .before .before .put-figures2 .ensures))))
 
 pub put-coordinate-spec : {M : Type 1} → statement M
 put-coordinate-spec =

@@ -1,3 +1,7 @@
+-- `put_entire` meets its contract: a CTA has its own word, and any other area `FIR`. Assumes nothing.
+use borrow.Author.Tests.{ne-eqb}
+use Rattle.lists.specs.Text.{bytes}
+use Rattle.pens.proofs.PenLaws.{split-word}
 use borrow.Author.Needs.{needs}
 use Rattle.writer.proofs.locating.put_entire.Statement.{statement}
 use Rattle.writer.proofs.locating.put_entire.Tie as tie
@@ -27,7 +31,7 @@ same-length c = search needs
 
 -- src/locating.rt:96:1
 returns : tie.Need-returns
-returns c = ?
+returns c = rw (c .before .before .before .before .before .match .keys1) (split-word (bytes "ENTIRE") (bytes "CTA") (c .before .before .put-word .ensures))
 
 -- src/locating.rt:96:1
 same-length-2 : tie.Need-same-length-2
@@ -35,7 +39,7 @@ same-length-2 c = search needs
 
 -- src/locating.rt:96:1
 returns-2 : tie.Need-returns-2
-returns-2 c = ?
+returns-2 c = rw (ne-eqb _ 3 (c .before .before .before .before .before .match .rest .1)) (split-word (bytes "ENTIRE") (bytes "FIR") (c .before .before .put-word2 .ensures))
 
 pub put-entire-spec : {M : Type 1} → statement M
 put-entire-spec =

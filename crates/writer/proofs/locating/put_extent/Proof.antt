@@ -1,3 +1,7 @@
+-- `put_extent` meets its contract: each location has its words. Assumes nothing.
+use Rattle.message.specs.Locations.{extentWords}
+use Rattle.writer.proofs.WriteLaws.{bounded, outlined}
+use Rattle.pens.proofs.PenLaws.{no-words}
 use borrow.Author.Needs.{needs}
 use Rattle.writer.proofs.locating.put_extent.Statement.{statement}
 use Rattle.writer.proofs.locating.put_extent.Tie as tie
@@ -17,7 +21,7 @@ enum-known-location c = search needs
 
 -- src/locating.rt:113:33
 put-bound-requires : tie.Need-put-bound-requires
-put-bound-requires c κs = ?
+put-bound-requires c κs = bounded (c .before .before .before .before .before .before .args .e) _ (c .before .before .before .before .before .before .pre) (c .before .before .location .given .1)
 
 -- src/locating.rt:114:27
 enum-known-location-2 : tie.Need-enum-known-location-2
@@ -25,7 +29,7 @@ enum-known-location-2 c = search needs
 
 -- src/locating.rt:114:33
 put-outline-requires : tie.Need-put-outline-requires
-put-outline-requires c κs = ?
+put-outline-requires c κs = outlined (c .before .before .before .before .before .before .args .e) _ (c .before .before .before .before .before .before .pre) (c .before .before .location2 .given .1)
 
 -- src/locating.rt:115:40
 enum-told-2 : tie.Need-enum-told-2
@@ -37,7 +41,8 @@ put-entire-requires c κs = search needs
 
 -- src/locating.rt:105:1
 returns : tie.Need-returns
-returns c = ?
+unfolding extentWords
+returns c = rw (c .enum-told .given .1) no-words
 
 -- src/locating.rt:105:1
 same-length : tie.Need-same-length
@@ -45,7 +50,8 @@ same-length c = search needs
 
 -- src/locating.rt:105:1
 returns-2 : tie.Need-returns-2
-returns-2 c = ?
+unfolding extentWords
+returns-2 c = rw (c .before .before .before .before .before .location .given .1) (c .before .before .put-bound .ensures)
 
 -- src/locating.rt:105:1
 same-length-2 : tie.Need-same-length-2
@@ -53,7 +59,8 @@ same-length-2 c = search needs
 
 -- src/locating.rt:105:1
 returns-3 : tie.Need-returns-3
-returns-3 c = ?
+unfolding extentWords
+returns-3 c = rw (c .before .before .before .before .before .location2 .given .1) (c .before .before .put-outline .ensures)
 
 -- src/locating.rt:105:1
 same-length-3 : tie.Need-same-length-3
@@ -61,7 +68,8 @@ same-length-3 c = search needs
 
 -- src/locating.rt:105:1
 returns-4 : tie.Need-returns-4
-returns-4 c = ?
+unfolding extentWords
+returns-4 c = rw (c .before .before .before .before .enum-told2 .given .1) (c .before .before .put-entire .ensures)
 
 pub put-extent-spec : {M : Type 1} → statement M
 put-extent-spec =

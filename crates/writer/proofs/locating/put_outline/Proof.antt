@@ -1,3 +1,5 @@
+-- `put_outline` meets its contract: `WI`, and the points behind it. Assumes nothing.
+use Rattle.pens.proofs.PenLaws.{and-then}
 use borrow.Author.Needs.{needs}
 use Rattle.writer.proofs.locating.put_outline.Statement.{statement}
 use Rattle.writer.proofs.locating.put_outline.Tie as tie
@@ -24,7 +26,7 @@ same-length c = search needs
 
 -- src/locating.rt:88:1
 returns : tie.Need-returns
-returns c = ?
+returns c = and-then (c .before .before .before .before .before .before .put-word .ensures) (c .before .before .put-points .ensures)
 
 pub put-outline-spec : {M : Type 1} → statement M
 put-outline-spec =

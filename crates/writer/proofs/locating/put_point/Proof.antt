@@ -1,3 +1,6 @@
+-- `put_point` meets its contract: latitude and longitude, one behind the other. Assumes nothing.
+use Rattle.coordinates.specs.Coordinates.{spellCoordinate}
+use Rattle.pens.proofs.PenLaws.{and-then}
 use borrow.Author.Needs.{needs}
 use Rattle.writer.proofs.locating.put_point.Statement.{statement}
 use Rattle.writer.proofs.locating.put_point.Tie as tie
@@ -19,7 +22,8 @@ same-length c = search needs
 
 -- src/locating.rt:36:1
 returns : tie.Need-returns
-returns c = ?
+unfolding spellCoordinate
+returns c = and-then (c .before .before .before .before .before .before .put-coordinate .ensures) (c .before .before .put-coordinate2 .ensures)
 
 pub put-point-spec : {M : Type 1} → statement M
 put-point-spec =

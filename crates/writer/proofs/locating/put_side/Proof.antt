@@ -1,3 +1,5 @@
+-- `put_side` meets its contract: its words, one behind the other. Assumes nothing.
+use Rattle.pens.proofs.PenLaws.{a-space, goes-on, and-then}
 use borrow.Author.Needs.{needs}
 use Rattle.writer.proofs.locating.put_side.Statement.{statement}
 use Rattle.writer.proofs.locating.put_side.Tie as tie
@@ -33,7 +35,7 @@ same-length c = search needs
 
 -- src/locating.rt:46:1
 returns : tie.Need-returns
-returns c = ?
+returns c = and-then (goes-on (a-space (c .before .before .before .before .before .before .before .before .before .before .before .before .before .before .before .put .ensures)) (c .before .before .before .before .before .before .before .before .before .before .before .put2 .ensures)) (and-then (c .before .before .before .before .before .before .put-word .ensures) (c .before .before .put-coordinate .ensures))
 
 pub put-side-spec : {M : Type 1} → statement M
 put-side-spec =

@@ -1,3 +1,6 @@
+-- `put_observation` meets its contract: its word, and the time where one is given. Assumes nothing.
+use Rattle.message.specs.Reports.{observationWords}
+use Rattle.pens.proofs.PenLaws.{and-then}
 use borrow.Author.Needs.{needs}
 use Rattle.writer.proofs.observing.put_observation.Statement.{statement}
 use Rattle.writer.proofs.observing.put_observation.Tie as tie
@@ -29,7 +32,8 @@ same-length c = search needs
 
 -- src/observing.rt:38:9
 returns : tie.Need-returns
-returns c = ?
+unfolding observationWords
+returns c = rw (c .before .before .before .before .before .before .before .before .before .if1 .taken) (and-then (c .before .before .before .before .before .before .before .before .before .before .before .before .put-observed .ensures) (and-then (c .before .before .before .before .before .before .put-word .ensures) (c .before .before .put-time .ensures)))
 
 -- src/observing.rt:31:1
 same-length-2 : tie.Need-same-length-2
@@ -37,7 +41,8 @@ same-length-2 c = search needs
 
 -- src/observing.rt:31:1
 returns-2 : tie.Need-returns-2
-returns-2 c = ?
+unfolding observationWords
+returns-2 c = rw (c .if1 .left) (c .before .before .before .put-observed .ensures)
 
 pub put-observation-spec : {M : Type 1} → statement M
 put-observation-spec =

@@ -1,3 +1,5 @@
+-- `put_observed` meets its contract: 1 is `OBS`, and any other number `FCST`. Assumes nothing.
+use borrow.Author.Tests.{ne-eqb}
 use borrow.Author.Needs.{needs}
 use Rattle.writer.proofs.observing.put_observed.Statement.{statement}
 use Rattle.writer.proofs.observing.put_observed.Tie as tie
@@ -27,7 +29,7 @@ same-length c = search needs
 
 -- src/observing.rt:22:1
 returns : tie.Need-returns
-returns c = ?
+returns c = rw (c .before .before .before .before .before .match .keys1) (c .before .before .put-word .ensures)
 
 -- src/observing.rt:22:1
 same-length-2 : tie.Need-same-length-2
@@ -35,7 +37,7 @@ same-length-2 c = search needs
 
 -- src/observing.rt:22:1
 returns-2 : tie.Need-returns-2
-returns-2 c = ?
+returns-2 c = rw (ne-eqb _ 1 (c .before .before .before .before .before .match .rest .1)) (c .before .before .put-word2 .ensures)
 
 pub put-observed-spec : {M : Type 1} → statement M
 put-observed-spec =

@@ -1,3 +1,6 @@
+-- `put_time` meets its contract: hour, minute and `Z` go on from the space. Assumes nothing.
+use Rattle.groups.specs.Groups.{spellTime}
+use Rattle.pens.proofs.PenLaws.{then, a-space, goes-on}
 use borrow.Author.Needs.{needs}
 use Rattle.writer.proofs.observing.put_time.Statement.{statement}
 use Rattle.writer.proofs.observing.put_time.Tie as tie
@@ -36,7 +39,8 @@ same-length c = search needs
 
 -- src/observing.rt:13:1
 returns : tie.Need-returns
-returns c = ?
+unfolding spellTime
+returns c = goes-on (a-space (c .before .before .before .before .before .before .before .before .before .before .before .before .before .before .before .before .put .ensures)) (then (c .before .before .before .before .before .before .before .before .before .before .before .put-figures .ensures) (then (c .before .before .before .before .before .before .put-figures2 .ensures) (c .before .before .put2 .ensures)))
 
 pub put-time-spec : {M : Type 1} → statement M
 put-time-spec =

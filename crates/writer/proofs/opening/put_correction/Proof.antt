@@ -1,3 +1,6 @@
+-- `put_correction` meets its contract: none has no word, and a letter goes behind `CC`. Assumes nothing.
+use borrow.Author.Tests.{ne-eqb}
+use Rattle.pens.proofs.PenLaws.{no-words, goes-on}
 use borrow.Author.Needs.{needs}
 use Rattle.writer.proofs.opening.put_correction.Statement.{statement}
 use Rattle.writer.proofs.opening.put_correction.Tie as tie
@@ -8,7 +11,7 @@ use Rattle.pens.proofs.put_word.Reads as put-word-reads
 
 -- src/opening.rt:66:9
 returns : tie.Need-returns
-returns c = ?
+returns c = rw (c .if1 .taken) no-words
 
 -- src/opening.rt:68:34
 slice-aggregate-put-word : tie.Need-slice-aggregate-put-word
@@ -28,7 +31,7 @@ same-length c = search needs
 
 -- src/opening.rt:62:1
 returns-2 : tie.Need-returns-2
-returns-2 c = ?
+returns-2 c = rw (ne-eqb _ 0 (c .before .before .before .before .before .before .before .before .before .if1 .left)) (goes-on (c .before .before .before .before .before .before .put-word .ensures) (c .before .before .put .ensures))
 
 pub put-correction-spec : {M : Type 1} → statement M
 put-correction-spec =

@@ -1,3 +1,6 @@
+-- `put_designator` meets its contract: type, letters and figures, one behind the other. Assumes nothing.
+use Rattle.headings.specs.Headings.{spellDesignator}
+use Rattle.pens.proofs.PenLaws.{then}
 use borrow.Author.Needs.{needs}
 use Rattle.writer.proofs.opening.put_designator.Statement.{statement}
 use Rattle.writer.proofs.opening.put_designator.Tie as tie
@@ -29,7 +32,8 @@ same-length c = search needs
 
 -- src/opening.rt:32:1
 returns : tie.Need-returns
-returns c = ?
+unfolding spellDesignator
+returns c = then (c .before .before .before .before .before .before .before .before .before .before .before .put-type .ensures) (then (c .before .before .before .before .before .before .before .put-letters .ensures) (c .before .before .put-figures .ensures))
 
 pub put-designator-spec : {M : Type 1} → statement M
 put-designator-spec =

@@ -1,3 +1,5 @@
+-- `put_four` meets its contract: the letters go on from the space. Assumes nothing.
+use Rattle.pens.proofs.PenLaws.{a-space, goes-on}
 use borrow.Author.Needs.{needs}
 use Rattle.writer.proofs.opening.put_four.Statement.{statement}
 use Rattle.writer.proofs.opening.put_four.Tie as tie
@@ -20,7 +22,7 @@ same-length c = search needs
 
 -- src/opening.rt:40:1
 returns : tie.Need-returns
-returns c = ?
+returns c = goes-on (a-space (c .before .before .before .before .before .before .put .ensures)) (c .before .before .put-letters .ensures)
 
 pub put-four-spec : {M : Type 1} → statement M
 put-four-spec = tie.close (tie.spec put-requires put-letters-requires same-length returns)

@@ -1,3 +1,6 @@
+-- `put_group` meets its contract: day, hour and minute, one behind the other. Assumes nothing.
+use Rattle.groups.specs.Groups.{spellGroup}
+use Rattle.pens.proofs.PenLaws.{then}
 use borrow.Author.Needs.{needs}
 use Rattle.writer.proofs.opening.put_group.Statement.{statement}
 use Rattle.writer.proofs.opening.put_group.Tie as tie
@@ -35,7 +38,8 @@ same-length c = search needs
 
 -- src/opening.rt:47:1
 returns : tie.Need-returns
-returns c = ?
+unfolding spellGroup
+returns c = then (c .before .before .before .before .before .before .before .before .before .before .before .before .put-figures .ensures) (then (c .before .before .before .before .before .before .before .put-figures2 .ensures) (c .before .before .put-figures3 .ensures))
 
 pub put-group-spec : {M : Type 1} → statement M
 put-group-spec =

@@ -1,3 +1,6 @@
+-- `put_heading` meets its contract: its words, one behind the other. Assumes nothing.
+use Rattle.message.specs.Words.{headingWords}
+use Rattle.pens.proofs.PenLaws.{a-line, and-then}
 use borrow.Author.Needs.{needs}
 use Rattle.writer.proofs.opening.put_heading.Statement.{statement}
 use Rattle.writer.proofs.opening.put_heading.Tie as tie
@@ -30,7 +33,8 @@ same-length c = search needs
 
 -- src/opening.rt:72:1
 returns : tie.Need-returns
-returns c = ?
+unfolding headingWords
+returns c = a-line (c .before .before .before .before .before .before .before .before .before .before .before .before .before .before .put-designator .ensures) (and-then (c .before .before .before .before .before .before .before .before .before .before .put-four .ensures) (and-then (c .before .before .before .before .before .before .put-sent .ensures) (c .before .before .put-correction .ensures)))
 
 pub put-heading-spec : {M : Type 1} → statement M
 put-heading-spec =

@@ -1,3 +1,6 @@
+-- `put_letter` meets its contract: none has no byte, and a letter has itself. Assumes nothing.
+use borrow.Author.Tests.{ne-eqb}
+use Rattle.pens.proofs.PenLaws.{nothing}
 use borrow.Author.Needs.{needs}
 use Rattle.writer.proofs.opening.put_letter.Statement.{statement}
 use Rattle.writer.proofs.opening.put_letter.Tie as tie
@@ -7,7 +10,7 @@ use Rattle.pens.proofs.put.Reads as put-reads
 
 -- src/opening.rt:87:9
 returns : tie.Need-returns
-returns c = ?
+returns c = rw (c .if1 .taken) nothing
 
 -- src/opening.rt:89:5
 put-requires : tie.Need-put-requires
@@ -19,7 +22,7 @@ same-length c = search needs
 
 -- src/opening.rt:83:1
 returns-2 : tie.Need-returns-2
-returns-2 c = ?
+returns-2 c = rw (ne-eqb _ 0 (c .before .before .before .before .if1 .left)) (c .before .before .put .ensures)
 
 pub put-letter-spec : {M : Type 1} → statement M
 put-letter-spec = tie.close (tie.spec returns put-requires same-length returns-2)

@@ -1,3 +1,6 @@
+-- `put_line` meets its contract: its words, one behind the other. Assumes nothing.
+use Rattle.message.specs.Words.{lineWords}
+use Rattle.pens.proofs.PenLaws.{a-line, and-then}
 use borrow.Author.Needs.{needs}
 use Rattle.writer.proofs.opening.put_line.Statement.{statement}
 use Rattle.writer.proofs.opening.put_line.Tie as tie
@@ -47,7 +50,8 @@ same-length c = search needs
 
 -- src/opening.rt:118:1
 returns : tie.Need-returns
-returns c = ?
+unfolding lineWords
+returns c = a-line (c .before .before .before .before .before .before .before .before .before .before .before .before .before .before .before .before .before .before .before .before .before .before .before .before .put-letters .ensures) (and-then (c .before .before .before .before .before .before .before .before .before .before .before .before .before .before .before .before .before .before .before .put-word .ensures) (and-then (c .before .before .before .before .before .before .before .before .before .before .before .before .before .before .before .put-sequence .ensures) (and-then (c .before .before .before .before .before .before .before .before .before .before .put-word2 .ensures) (and-then (c .before .before .before .before .before .before .put-period .ensures) (c .before .before .put-office .ensures)))))
 
 pub put-line-spec : {M : Type 1} → statement M
 put-line-spec =

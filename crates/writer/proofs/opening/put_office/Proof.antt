@@ -1,3 +1,5 @@
+-- `put_office` meets its contract: the hyphen goes on from the letters. Assumes nothing.
+use Rattle.pens.proofs.PenLaws.{goes-on}
 use borrow.Author.Needs.{needs}
 use Rattle.writer.proofs.opening.put_office.Statement.{statement}
 use Rattle.writer.proofs.opening.put_office.Tie as tie
@@ -20,7 +22,7 @@ same-length c = search needs
 
 -- src/opening.rt:111:1
 returns : tie.Need-returns
-returns c = ?
+returns c = goes-on (c .before .before .before .before .before .before .put-four .ensures) (c .before .before .put .ensures)
 
 pub put-office-spec : {M : Type 1} → statement M
 put-office-spec = tie.close (tie.spec put-four-requires put-requires same-length returns)

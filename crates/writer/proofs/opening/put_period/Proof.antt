@@ -1,3 +1,6 @@
+-- `put_period` meets its contract: group, `/` and group go on from the space. Assumes nothing.
+use Rattle.groups.specs.Groups.{spellPeriod}
+use Rattle.pens.proofs.PenLaws.{then, a-space, goes-on}
 use borrow.Author.Needs.{needs}
 use Rattle.writer.proofs.opening.put_period.Statement.{statement}
 use Rattle.writer.proofs.opening.put_period.Tie as tie
@@ -28,7 +31,8 @@ same-length c = search needs
 
 -- src/opening.rt:100:1
 returns : tie.Need-returns
-returns c = ?
+unfolding spellPeriod
+returns c = goes-on (a-space (c .before .before .before .before .before .before .before .before .before .before .before .before .before .before .put .ensures)) (then (c .before .before .before .before .before .before .before .before .before .before .put-group .ensures) (then (c .before .before .before .before .before .before .put2 .ensures) (c .before .before .put-group2 .ensures)))
 
 pub put-period-spec : {M : Type 1} → statement M
 put-period-spec =

@@ -1,3 +1,5 @@
+-- `put_sent` meets its contract: the group goes on from the space. Assumes nothing.
+use Rattle.pens.proofs.PenLaws.{a-space, goes-on}
 use borrow.Author.Needs.{needs}
 use Rattle.writer.proofs.opening.put_sent.Statement.{statement}
 use Rattle.writer.proofs.opening.put_sent.Tie as tie
@@ -20,7 +22,7 @@ same-length c = search needs
 
 -- src/opening.rt:55:1
 returns : tie.Need-returns
-returns c = ?
+returns c = goes-on (a-space (c .before .before .before .before .before .before .put .ensures)) (c .before .before .put-group .ensures)
 
 pub put-sent-spec : {M : Type 1} → statement M
 put-sent-spec = tie.close (tie.spec put-requires put-group-requires same-length returns)

@@ -1,3 +1,6 @@
+-- `put_sequence` meets its contract: letter and figures go on from the space. Assumes nothing.
+use Rattle.headings.specs.Sequences.{spellSequence}
+use Rattle.pens.proofs.PenLaws.{then, a-space, goes-on}
 use borrow.Author.Needs.{needs}
 use Rattle.writer.proofs.opening.put_sequence.Statement.{statement}
 use Rattle.writer.proofs.opening.put_sequence.Tie as tie
@@ -29,7 +32,8 @@ same-length c = search needs
 
 -- src/opening.rt:92:1
 returns : tie.Need-returns
-returns c = ?
+unfolding spellSequence
+returns c = goes-on (a-space (c .before .before .before .before .before .before .before .before .before .before .before .put .ensures)) (then (c .before .before .before .before .before .before .before .put-letter .ensures) (c .before .before .put-figures .ensures))
 
 pub put-sequence-spec : {M : Type 1} → statement M
 put-sequence-spec =

@@ -1,3 +1,8 @@
+-- `put_type` meets its contract: each kind has its word, and no other number has one. Assumes nothing.
+use Rattle.headings.specs.Headings.{typeWords}
+use native.Mathlib.Omega.{arith}
+use Rattle.writer.proofs.Tables.{unnumbered}
+use Rattle.pens.proofs.PenLaws.{nothing}
 use borrow.Author.Needs.{needs}
 use Rattle.writer.proofs.opening.put_type.Statement.{statement}
 use Rattle.writer.proofs.opening.put_type.Tie as tie
@@ -27,7 +32,8 @@ same-length c = search needs
 
 -- src/opening.rt:22:1
 returns : tie.Need-returns
-returns c = ?
+unfolding typeWords
+returns c = rw (c .before .before .before .before .before .match .keys1) (c .before .before .put-all .ensures)
 
 -- src/opening.rt:22:1
 same-length-2 : tie.Need-same-length-2
@@ -35,11 +41,13 @@ same-length-2 c = search needs
 
 -- src/opening.rt:22:1
 returns-2 : tie.Need-returns-2
-returns-2 c = ?
+unfolding typeWords
+returns-2 c = rw (c .before .before .before .before .before .match .keys2) (c .before .before .put-all2 .ensures)
 
 -- src/opening.rt:22:1
 returns-3 : tie.Need-returns-3
-returns-3 c = ?
+unfolding typeWords
+returns-3 c = rw (unnumbered 2 typeWords (c .before .before .args .kind) (λ low. omega (arith, c .match .rest .1, c .match .rest .0 .1))) nothing
 
 pub put-type-spec : {M : Type 1} → statement M
 put-type-spec =

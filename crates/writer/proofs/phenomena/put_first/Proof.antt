@@ -1,3 +1,11 @@
+-- `put_first` meets its contract: each stretch of numbers has its word. Assumes nothing.
+use Rattle.writer.specs.Writing.{firstWord}
+use Rattle.lists.specs.Lists.{same}
+use Rattle.lists.specs.Text.{bytes}
+use Rattle.message.specs.Reports.{phenomena}
+use mathlib.Core.Path.{refl}
+use native.Mathlib.Omega.{arith}
+use Rattle.writer.proofs.Tables.{ranged, past, other-way}
 use borrow.Author.Needs.{needs}
 use Rattle.writer.proofs.phenomena.put_first.Statement.{statement}
 use Rattle.writer.proofs.phenomena.put_first.Tie as tie
@@ -75,7 +83,8 @@ same-length c = search needs
 
 -- src/phenomena.rt:16:1
 returns : tie.Need-returns
-returns c = ?
+unfolding phenomena
+returns c = rw (c .before .before .before .before .before .match .keys1) (c .before .before .put-word .ensures)
 
 -- src/phenomena.rt:16:1
 same-length-2 : tie.Need-same-length-2
@@ -83,7 +92,8 @@ same-length-2 c = search needs
 
 -- src/phenomena.rt:16:1
 returns-2 : tie.Need-returns-2
-returns-2 c = ?
+unfolding phenomena same
+returns-2 c = rw (ranged firstWord (bytes "OBSC") 1 2 (c .before .before .before .before .before .before .before .before .before .args .n) refl (omega arith) (omega arith)) (c .before .before .put-word2 .ensures)
 
 -- src/phenomena.rt:16:1
 same-length-3 : tie.Need-same-length-3
@@ -91,7 +101,8 @@ same-length-3 c = search needs
 
 -- src/phenomena.rt:16:1
 returns-3 : tie.Need-returns-3
-returns-3 c = ?
+unfolding phenomena same
+returns-3 c = rw (ranged firstWord (bytes "EMBD") 3 2 (c .before .before .before .before .before .before .before .before .before .before .args .n) refl (omega arith) (omega arith)) (c .before .before .put-word3 .ensures)
 
 -- src/phenomena.rt:16:1
 same-length-4 : tie.Need-same-length-4
@@ -99,7 +110,8 @@ same-length-4 c = search needs
 
 -- src/phenomena.rt:16:1
 returns-4 : tie.Need-returns-4
-returns-4 c = ?
+unfolding phenomena same
+returns-4 c = rw (ranged firstWord (bytes "FRQ") 5 2 (c .before .before .before .before .before .before .before .before .before .before .before .args .n) refl (omega arith) (omega arith)) (c .before .before .put-word4 .ensures)
 
 -- src/phenomena.rt:16:1
 same-length-5 : tie.Need-same-length-5
@@ -107,7 +119,8 @@ same-length-5 c = search needs
 
 -- src/phenomena.rt:16:1
 returns-5 : tie.Need-returns-5
-returns-5 c = ?
+unfolding phenomena same
+returns-5 c = rw (ranged firstWord (bytes "SQL") 7 2 (c .before .before .before .before .before .before .before .before .before .before .before .before .args .n) refl (omega arith) (omega arith)) (c .before .before .put-word5 .ensures)
 
 -- src/phenomena.rt:16:1
 same-length-6 : tie.Need-same-length-6
@@ -115,7 +128,8 @@ same-length-6 c = search needs
 
 -- src/phenomena.rt:16:1
 returns-6 : tie.Need-returns-6
-returns-6 c = ?
+unfolding phenomena same
+returns-6 c = rw (ranged firstWord (bytes "SEV") 9 4 (c .before .before .before .before .before .before .before .before .before .before .before .before .before .args .n) refl (omega arith) (omega arith)) (c .before .before .put-word6 .ensures)
 
 -- src/phenomena.rt:16:1
 same-length-7 : tie.Need-same-length-7
@@ -123,7 +137,8 @@ same-length-7 c = search needs
 
 -- src/phenomena.rt:16:1
 returns-7 : tie.Need-returns-7
-returns-7 c = ?
+unfolding phenomena same
+returns-7 c = rw (ranged firstWord (bytes "HVY") 13 2 (c .before .before .before .before .before .before .before .before .before .before .before .before .before .before .args .n) refl (omega arith) (omega arith)) (c .before .before .put-word7 .ensures)
 
 -- src/phenomena.rt:16:1
 same-length-8 : tie.Need-same-length-8
@@ -131,7 +146,8 @@ same-length-8 c = search needs
 
 -- src/phenomena.rt:16:1
 returns-8 : tie.Need-returns-8
-returns-8 c = ?
+unfolding phenomena same
+returns-8 c = let rest = other-way (c .before .before .before .before .before .if1 .came) (λ e. omega (arith, e .taken, c .before .before .before .before .before .before .before .before .pre .0)) in rw (ranged firstWord (bytes "VA") 16 2 (c .before .before .before .before .before .before .before .before .args .n) refl (past 15 (rest .6 .left) (c .before .before .before .before .before .before .match .rest .1)) (omega (arith, c .before .before .before .before .before .before .before .before .pre .1))) (c .before .before .put-word8 .ensures)
 
 pub put-first-spec : {M : Type 1} → statement M
 put-first-spec =

@@ -1,3 +1,6 @@
+-- `put_mount` meets its contract: no count is no name, and a name goes behind `MT`. Assumes nothing.
+use Rattle.writer.proofs.SectionLaws.{no-mount, a-mount, mount-fits}
+use Rattle.pens.proofs.PenLaws.{no-words, and-then}
 use borrow.Author.Needs.{needs}
 use Rattle.writer.proofs.phenomena.put_mount.Statement.{statement}
 use Rattle.writer.proofs.phenomena.put_mount.Tie as tie
@@ -8,7 +11,7 @@ use Rattle.writer.proofs.areas.put_name.Reads as put-name-reads
 
 -- src/phenomena.rt:68:9
 returns : tie.Need-returns
-returns c = ?
+returns c = rw (no-mount (c .before .before .before .args .n) (c .before .before .before .pre) (c .if1 .taken)) no-words
 
 -- src/phenomena.rt:70:34
 slice-aggregate-put-word : tie.Need-slice-aggregate-put-word
@@ -20,7 +23,7 @@ put-word-requires c κs = search needs
 
 -- src/phenomena.rt:71:5
 put-name-requires : tie.Need-put-name-requires
-put-name-requires c κs = ?
+put-name-requires c κs = mount-fits (c .before .before .before .before .before .before .before .before .before .args .n) (c .before .before .before .before .before .before .before .before .before .pre) (c .before .before .before .before .before .before .if1 .left)
 
 -- src/phenomena.rt:63:1
 same-length : tie.Need-same-length
@@ -28,7 +31,7 @@ same-length c = search needs
 
 -- src/phenomena.rt:63:1
 returns-2 : tie.Need-returns-2
-returns-2 c = ?
+returns-2 c = rw (a-mount (c .before .before .before .before .before .before .before .before .before .before .before .before .args .n) (c .before .before .before .before .before .before .before .before .before .if1 .left)) (and-then (c .before .before .before .before .before .before .put-word .ensures) (c .before .before .put-name .ensures))
 
 pub put-mount-spec : {M : Type 1} → statement M
 put-mount-spec =

@@ -1,3 +1,7 @@
+-- `put_named` meets its contract: a phenomenon has two words, and number 11 a third. Assumes nothing.
+use borrow.Author.Tests.{eq-eqb, ne-eqb}
+use Rattle.writer.proofs.SectionLaws.{named-words}
+use Rattle.pens.proofs.PenLaws.{and-then}
 use borrow.Author.Needs.{needs}
 use Rattle.writer.proofs.phenomena.put_named.Statement.{statement}
 use Rattle.writer.proofs.phenomena.put_named.Tie as tie
@@ -29,7 +33,7 @@ same-length c = search needs
 
 -- src/phenomena.rt:58:9
 returns : tie.Need-returns
-returns c = ?
+returns c = rw (named-words (c .before .before .before .before .before .before .before .before .before .before .before .before .before .before .before .args .n) (c .before .before .before .before .before .before .before .before .before .before .before .before .before .before .before .pre .0) (c .before .before .before .before .before .before .before .before .before .before .before .before .before .before .before .pre .1), eq-eqb _ 11 (c .before .before .before .before .before .if1 .taken)) (and-then (c .before .before .before .before .before .before .before .before .before .before .before .before .put-first .ensures) (and-then (c .before .before .before .before .before .before .before .before .put-second .ensures) (c .before .before .put-word .ensures)))
 
 -- src/phenomena.rt:51:1
 same-length-2 : tie.Need-same-length-2
@@ -37,7 +41,7 @@ same-length-2 c = search needs
 
 -- src/phenomena.rt:51:1
 returns-2 : tie.Need-returns-2
-returns-2 c = ?
+returns-2 c = rw (named-words (c .before .before .before .before .before .before .before .before .before .before .args .n) (c .before .before .before .before .before .before .before .before .before .before .pre .0) (c .before .before .before .before .before .before .before .before .before .before .pre .1), ne-eqb _ 11 (c .if1 .left)) (and-then (c .before .before .before .before .before .before .before .put-first .ensures) (c .before .before .before .put-second .ensures))
 
 pub put-named-spec : {M : Type 1} → statement M
 put-named-spec =

@@ -1,3 +1,9 @@
+-- `put_phenomenon` meets its contract: its words, and the volcano of an eruption. Assumes nothing.
+use Rattle.message.specs.Reports.{phenomenonWords}
+use borrow.Author.Tests.{eq-eqb, ne-eqb}
+use mathlib.Core.List.{append-nil}
+use Rattle.writer.proofs.SectionLaws.{phenomenon-number, erupted}
+use Rattle.pens.proofs.PenLaws.{and-then}
 use borrow.Author.Needs.{needs}
 use Rattle.writer.proofs.phenomena.put_phenomenon.Statement.{statement}
 use Rattle.writer.proofs.phenomena.put_phenomenon.Tie as tie
@@ -8,11 +14,11 @@ use Rattle.writer.proofs.phenomena.put_volcano.Reads as put-volcano-rea
 
 -- src/phenomena.rt:90:9
 put-named-requires : tie.Need-put-named-requires
-put-named-requires c κs = ?
+put-named-requires c κs = phenomenon-number (c .before .before .args .n) (c .before .before .args .v) (c .before .before .pre)
 
 -- src/phenomena.rt:92:9
 put-volcano-requires : tie.Need-put-volcano-requires
-put-volcano-requires c κs = ?
+put-volcano-requires c κs = erupted (c .before .before .before .before .before .before .before .args .n) (c .before .before .before .before .before .before .before .args .v) (c .before .before .before .before .before .before .before .pre) (c .before .if1 .taken)
 
 -- src/phenomena.rt:92:9
 same-length : tie.Need-same-length
@@ -20,7 +26,8 @@ same-length c = search needs
 
 -- src/phenomena.rt:92:9
 returns : tie.Need-returns
-returns c = ?
+unfolding phenomenonWords
+returns c = rw (eq-eqb _ 17 (c .before .before .before .before .if1 .taken)) (and-then (c .before .before .before .before .before .before .before .put-named .ensures) (c .before .before .put-volcano .ensures))
 
 -- src/phenomena.rt:86:1
 same-length-2 : tie.Need-same-length-2
@@ -28,7 +35,8 @@ same-length-2 c = search needs
 
 -- src/phenomena.rt:86:1
 returns-2 : tie.Need-returns-2
-returns-2 c = ?
+unfolding phenomenonWords
+returns-2 c = rw (ne-eqb _ 17 (c .if1 .left), append-nil) (c .before .before .before .put-named .ensures)
 
 pub put-phenomenon-spec : {M : Type 1} → statement M
 put-phenomenon-spec =

@@ -1,3 +1,12 @@
+-- `put_second` meets its contract: each number or stretch of numbers has its word. Assumes nothing.
+use Rattle.writer.specs.Writing.{secondWord}
+use Rattle.lists.specs.Lists.{same}
+use Rattle.lists.specs.Text.{bytes}
+use Rattle.message.specs.Reports.{phenomena}
+use mathlib.Core.Logic.{inl, inr}
+use mathlib.Core.Path.{refl}
+use native.Mathlib.Omega.{arith}
+use Rattle.writer.proofs.Tables.{one-of-four, ranged, past, other-way}
 use borrow.Author.Needs.{needs}
 use Rattle.writer.proofs.phenomena.put_second.Statement.{statement}
 use Rattle.writer.proofs.phenomena.put_second.Tie as tie
@@ -83,7 +92,8 @@ same-length c = search needs
 
 -- src/phenomena.rt:33:1
 returns : tie.Need-returns
-returns c = ?
+unfolding phenomena
+returns c = rw (one-of-four secondWord (bytes "TS") 1 3 5 7 (c .before .before .before .before .before .before .before .args .n) refl refl refl refl (c .before .before .before .before .before .match .keys1)) (c .before .before .put-word .ensures)
 
 -- src/phenomena.rt:33:1
 same-length-2 : tie.Need-same-length-2
@@ -91,7 +101,8 @@ same-length-2 c = search needs
 
 -- src/phenomena.rt:33:1
 returns-2 : tie.Need-returns-2
-returns-2 c = ?
+unfolding phenomena
+returns-2 c = rw (one-of-four secondWord (bytes "TSGR") 2 4 6 8 (c .before .before .before .before .before .before .before .args .n) refl refl refl refl (c .before .before .before .before .before .match .keys2)) (c .before .before .put-word2 .ensures)
 
 -- src/phenomena.rt:33:1
 same-length-3 : tie.Need-same-length-3
@@ -99,7 +110,8 @@ same-length-3 c = search needs
 
 -- src/phenomena.rt:33:1
 returns-3 : tie.Need-returns-3
-returns-3 c = ?
+unfolding phenomena
+returns-3 c = rw (c .before .before .before .before .before .match .keys3) (c .before .before .put-word3 .ensures)
 
 -- src/phenomena.rt:33:1
 same-length-4 : tie.Need-same-length-4
@@ -107,7 +119,8 @@ same-length-4 c = search needs
 
 -- src/phenomena.rt:33:1
 returns-4 : tie.Need-returns-4
-returns-4 c = ?
+unfolding phenomena
+returns-4 c = rw (c .before .before .before .before .before .match .keys4) (c .before .before .put-word4 .ensures)
 
 -- src/phenomena.rt:33:1
 same-length-5 : tie.Need-same-length-5
@@ -115,7 +128,8 @@ same-length-5 c = search needs
 
 -- src/phenomena.rt:33:1
 returns-5 : tie.Need-returns-5
-returns-5 c = ?
+unfolding phenomena
+returns-5 c = rw (c .before .before .before .before .before .match .keys5) (c .before .before .put-word5 .ensures)
 
 -- src/phenomena.rt:33:1
 same-length-6 : tie.Need-same-length-6
@@ -123,7 +137,8 @@ same-length-6 c = search needs
 
 -- src/phenomena.rt:33:1
 returns-6 : tie.Need-returns-6
-returns-6 c = ?
+unfolding phenomena
+returns-6 c = rw (c .before .before .before .before .before .match .keys6) (c .before .before .put-word6 .ensures)
 
 -- src/phenomena.rt:33:1
 same-length-7 : tie.Need-same-length-7
@@ -131,7 +146,8 @@ same-length-7 c = search needs
 
 -- src/phenomena.rt:33:1
 returns-7 : tie.Need-returns-7
-returns-7 c = ?
+unfolding phenomena same
+returns-7 c = rw (ranged secondWord (bytes "ICE") 10 2 (c .before .before .before .before .before .before .before .before .before .args .n) refl (past 9 (past 8 (past 7 (past 6 (past 5 (past 4 (past 3 (past 2 (past 1 (c .before .before .before .before .before .before .before .before .before .pre .0) (λ e. c .before .before .before .before .before .before .before .match .rest .0 .0 .0 .0 .0 .1 (inl e))) (λ e. c .before .before .before .before .before .before .before .match .rest .0 .0 .0 .0 .1 (inl e))) (λ e. c .before .before .before .before .before .before .before .match .rest .0 .0 .0 .0 .0 .1 (inr (inl e)))) (λ e. c .before .before .before .before .before .before .before .match .rest .0 .0 .0 .0 .1 (inr (inl e)))) (λ e. c .before .before .before .before .before .before .before .match .rest .0 .0 .0 .0 .0 .1 (inr (inr (inl e))))) (λ e. c .before .before .before .before .before .before .before .match .rest .0 .0 .0 .0 .1 (inr (inr (inl e))))) (λ e. c .before .before .before .before .before .before .before .match .rest .0 .0 .0 .0 .0 .1 (inr (inr (inr e))))) (λ e. c .before .before .before .before .before .before .before .match .rest .0 .0 .0 .0 .1 (inr (inr (inr e))))) (c .before .before .before .before .before .before .before .match .rest .0 .0 .0 .1)) (c .before .before .before .before .before .if2 .taken)) (c .before .before .put-word7 .ensures)
 
 -- src/phenomena.rt:33:1
 same-length-8 : tie.Need-same-length-8
@@ -139,7 +155,8 @@ same-length-8 c = search needs
 
 -- src/phenomena.rt:33:1
 returns-8 : tie.Need-returns-8
-returns-8 c = ?
+unfolding phenomena same
+returns-8 c = rw (ranged secondWord (bytes "CLD") 15 2 (c .before .before .before .before .before .before .before .before .before .before .args .n) refl (omega arith) (omega arith)) (c .before .before .put-word8 .ensures)
 
 -- src/phenomena.rt:33:1
 same-length-9 : tie.Need-same-length-9
@@ -147,7 +164,8 @@ same-length-9 c = search needs
 
 -- src/phenomena.rt:33:1
 returns-9 : tie.Need-returns-9
-returns-9 c = ?
+unfolding phenomena same
+returns-9 c = let rest = other-way (c .before .before .before .before .before .if1 .came) (λ e. omega (arith, e .taken, c .before .before .before .before .before .before .before .before .pre .0)) in rw (ranged secondWord (bytes "ERUPTION") 17 1 (c .before .before .before .before .before .before .before .before .args .n) refl (rest .2 .left) (omega (arith, c .before .before .before .before .before .before .before .before .pre .1))) (c .before .before .put-word9 .ensures)
 
 pub put-second-spec : {M : Type 1} → statement M
 put-second-spec =

@@ -1,3 +1,7 @@
+-- `put_volcano` meets its contract: its words, one behind the other. Assumes nothing.
+use Rattle.message.proofs.Goodness.{volcano-parts}
+use Rattle.lists.specs.Text.{bytes}
+use Rattle.pens.proofs.PenLaws.{and-then, split-word}
 use borrow.Author.Needs.{needs}
 use Rattle.writer.proofs.phenomena.put_volcano.Statement.{statement}
 use Rattle.writer.proofs.phenomena.put_volcano.Tie as tie
@@ -9,7 +13,7 @@ use Rattle.writer.proofs.phenomena.put_mount.Reads as put-mount-reads
 
 -- src/phenomena.rt:80:9
 put-mount-requires : tie.Need-put-mount-requires
-put-mount-requires c κs = ?
+put-mount-requires c κs = record { holds = volcano-parts (c .before .before .before .before .args .v) (c .before .before .before .before .pre) .name }
 
 -- src/phenomena.rt:81:30
 slice-aggregate-put-word : tie.Need-slice-aggregate-put-word
@@ -37,7 +41,7 @@ same-length c = search needs
 
 -- src/phenomena.rt:74:1
 returns : tie.Need-returns
-returns c = ?
+returns c = and-then (c .before .before .before .before .before .before .before .before .before .before .before .before .before .before .before .before .put-mount .ensures) (and-then (c .before .before .before .before .before .before .before .before .before .before .before .put-word .ensures) (and-then (c .before .before .before .before .before .before .before .put-point .ensures) (split-word (bytes "VA") (bytes "CLD") (c .before .before .put-word2 .ensures))))
 
 pub put-volcano-spec : {M : Type 1} → statement M
 put-volcano-spec =
