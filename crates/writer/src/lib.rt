@@ -23,7 +23,6 @@ use message::Record;
 use message::is_good;
 use opening::put_heading;
 use opening::put_line;
-use pens::put;
 use pens::put_all;
 
 // The most bytes that a text may have.
@@ -56,7 +55,7 @@ fn put_text(out: &mut [u8], r: Record) -> usize
     let c = put_line(out, b, line);
     let d = put_all(out, c, b"\r\n");
     let e = put_body(out, d, r);
-    put(out, e, b'=')
+    put_all(out, e, b"=")
 }
 
 fn refused(number: u8) -> Written

@@ -6,7 +6,6 @@ use Rattle.writer.proofs.put_text.Statement.{statement}
 use Rattle.writer.proofs.put_text.Tie as tie
 use Rattle.writer.proofs.put_text.Reads as reads
 use Rattle.writer.proofs.put_text.Lts as lts
-use Rattle.pens.proofs.put.Reads as put-reads
 use Rattle.pens.proofs.put_all.Reads as put-all-reads
 use Rattle.writer.proofs.opening.put_heading.Reads as put-heading-reads
 use Rattle.writer.proofs.opening.put_line.Reads as put-line-reads
@@ -41,8 +40,11 @@ put-body-requires : tie.Need-put-body-requires
 put-body-requires c κs = search needs
 
 -- src/lib.rt:59:5
-put-requires : tie.Need-put-requires
-put-requires c κs = search needs
+slice-aggregate-put-all-3 : tie.Need-slice-aggregate-put-all-3
+slice-aggregate-put-all-3 c = search needs
+
+put-all-requires-3 : tie.Need-put-all-requires-3
+put-all-requires-3 c κs = search needs
 
 -- src/lib.rt:48:1
 same-length : tie.Need-same-length
@@ -51,7 +53,7 @@ same-length c = search needs
 -- src/lib.rt:48:1
 returns : tie.Need-returns
 unfolding textOf
-returns c = then (line-text (c .before .before .before .before .before .before .before .before .before .before .before .before .before .before .before .before .before .before .before .before .before .before .before .before .put-heading .ensures)) (then (c .before .before .before .before .before .before .before .before .before .before .before .before .before .before .before .before .before .before .before .put-all .ensures) (then (line-text (c .before .before .before .before .before .before .before .before .before .before .before .before .before .before .before .put-line .ensures)) (then (c .before .before .before .before .before .before .before .before .before .before .put-all2 .ensures) (then (line-text (c .before .before .before .before .before .before .put-body .ensures)) (c .before .before .put .ensures)))))
+returns c = then (line-text (c .before .before .before .before .before .before .before .before .before .before .before .before .before .before .before .before .before .before .before .before .before .before .before .before .before .put-heading .ensures)) (then (c .before .before .before .before .before .before .before .before .before .before .before .before .before .before .before .before .before .before .before .before .put-all .ensures) (then (line-text (c .before .before .before .before .before .before .before .before .before .before .before .before .before .before .before .before .put-line .ensures)) (then (c .before .before .before .before .before .before .before .before .before .before .before .put-all2 .ensures) (then (line-text (c .before .before .before .before .before .before .before .put-body .ensures)) (c .before .before .put-all3 .ensures)))))
 
 pub put-text-spec : {M : Type 1} → statement M
 put-text-spec =
@@ -64,6 +66,7 @@ put-text-spec =
     slice-aggregate-put-all-2
     put-all-requires-2
     put-body-requires
-    put-requires
+    slice-aggregate-put-all-3
+    put-all-requires-3
     same-length
     returns)
