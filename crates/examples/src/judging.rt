@@ -42,7 +42,7 @@ pub(crate) fn judge(tally: Tally, line: &[u8]) -> Tally {
 // Reads the text and prints its name, the reply, and what is wrong where something is.
 fn compare(tally: Tally, name: &[u8], number: &[u8], place: &[u8], texts: &[u8]) -> Tally {
     let bar = find(texts, 0, b'|');
-    let reply = reply_to(&texts[..bar]);
+    let reply = reply_to(&texts[0..bar]);
     io::write_all(1, name);
     tell(reply);
     if is_right(reply, number, place, texts) {
