@@ -24,7 +24,7 @@ fn main() {
     io::write_all(1, b" wrong\n");
 }
 
-// Room for the table, which has some 76,000 bytes.
+// Room for the table, which has some 89,000 bytes.
 fn room() -> [u8; 131072]
     ensures { λ r. ⌜ 131072 ≡ length r ⌝ }
 {
