@@ -1,1 +1,2 @@
 pub mod PenLaws
+pub mod Determined

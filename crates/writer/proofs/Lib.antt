@@ -1,3 +1,4 @@
 pub mod Tables
 pub mod SectionLaws
 pub mod WriteLaws
+pub mod Determined

@@ -18,6 +18,7 @@ use Rattle.groups.specs.declared.Group.{Group}
 use Rattle.groups.specs.declared.Time.{Time}
 use Rattle.headings.specs.Sequences.{spellSequence}
 use Rattle.headings.specs.declared.Sequence.{Sequence}
+use Rattle.levels.specs.Levels.{feetFigures}
 use Rattle.motions.specs.Motions.{spellCompass, spellIntensity}
 use Rattle.motions.specs.Speeds.{spellSpeed}
 use Rattle.motions.specs.declared.Speed.{Speed}
@@ -90,6 +91,10 @@ outlineWords n points = bytes "WI" ∷ joined (take n points)
 -- a number in so many figures, with what stands before and behind it
 abbrev pub measuredWord : List ℕ → ℕ → ℕ → List ℕ → List ℕ
 measuredWord front n figures unit = front ++ (inFigures figures n ++ unit)
+
+-- `SFC/nnnnFT`, `SFC/nnnnnFT` (10000 up)
+abbrev pub feetWord : ℕ → List ℕ
+feetWord n = measuredWord (bytes "SFC/") n (feetFigures n) (bytes "FT")
 
 -- `FLnnn/nnn`
 abbrev pub bandWord : ℕ → ℕ → List ℕ

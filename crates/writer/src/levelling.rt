@@ -1,10 +1,9 @@
 // The level.
 ghost use mathlib.Core.List.{[], _∷_, _++_};
-ghost use mathlib.Core.Path.{_≡_};
 ghost use Rattle.figures.specs.Figures.{inFigures};
-ghost use Rattle.levels.specs.Levels.{feetFigures, levelWords};
+ghost use Rattle.levels.specs.Levels.{levelWords};
 ghost use Rattle.pens.specs.Pens.{Words};
-ghost use Rattle.writer.specs.Writing.{measuredWord, bandWord};
+ghost use Rattle.writer.specs.Writing.{measuredWord, feetWord, bandWord};
 use levels::Level;
 use pens::put;
 use pens::put_all;
@@ -36,12 +35,12 @@ fn put_band(out: &mut [u8], at: usize, low: u32, high: u32) -> usize
 }
 
 // Feet have four figures, and five from 10000 up.
-fn feet_figures(n: u32) -> u8
-    ensures { λ r. ⌜ r ≡ feetFigures n ⌝ }
+fn put_feet(out: &mut [u8], at: usize, n: u32) -> usize
+    ensures { λ r. ⌜ Words (feetWord n ∷ []) at (now (out .entry)) r (now (out .exit)) ⌝ }
 {
     match n {
-        0..=9999 => 4,
-        _ => 5,
+        0..=9999 => put_measured(out, at, b"SFC/", n, 4, b"FT"),
+        _ => put_measured(out, at, b"SFC/", n, 5, b"FT"),
     }
 }
 
@@ -53,7 +52,7 @@ pub(crate) fn put_level(out: &mut [u8], at: usize, level: Level) -> usize
         Level::Flight(n) => put_flight(out, at, b"FL", n),
         Level::SurfaceFlight(n) => put_flight(out, at, b"SFC/FL", n),
         Level::SurfaceMetres(n) => put_measured(out, at, b"SFC/", n, 4, b"M"),
-        Level::SurfaceFeet(n) => put_measured(out, at, b"SFC/", n, feet_figures(n), b"FT"),
+        Level::SurfaceFeet(n) => put_feet(out, at, n),
         Level::Band(low, high) => put_band(out, at, low, high),
         Level::TopFlight(n) => put_flight(out, at, b"TOP FL", n),
         Level::AboveFlight(n) => put_flight(out, at, b"ABV FL", n),

@@ -53,7 +53,15 @@ same-length c = search needs
 -- src/lib.rt:48:1
 returns : tie.Need-returns
 unfolding textOf
-returns c = then (line-text (c .before .before .before .before .before .before .before .before .before .before .before .before .before .before .before .before .before .before .before .before .before .before .before .before .before .put-heading .ensures)) (then (c .before .before .before .before .before .before .before .before .before .before .before .before .before .before .before .before .before .before .before .before .put-all .ensures) (then (line-text (c .before .before .before .before .before .before .before .before .before .before .before .before .before .before .before .before .put-line .ensures)) (then (c .before .before .before .before .before .before .before .before .before .before .before .put-all2 .ensures) (then (line-text (c .before .before .before .before .before .before .before .put-body .ensures)) (c .before .before .put-all3 .ensures)))))
+returns c =
+    then (line-text
+    (c .before .before .before .before .before .before .before .before .before .before .before .before .before .before .before .before .before .before .before .before .before .before .before .before .before .put-heading .ensures))
+    (then
+    (c .before .before .before .before .before .before .before .before .before .before .before .before .before .before .before .before .before .before .before .before .put-all .ensures)
+    (then (line-text
+    (c .before .before .before .before .before .before .before .before .before .before .before .before .before .before .before .before .put-line .ensures))
+    (then (c .before .before .before .before .before .before .before .before .before .before .before .put-all2 .ensures) (then (line-text
+    (c .before .before .before .before .before .before .before .put-body .ensures)) (c .before .before .put-all3 .ensures)))))
 
 pub put-text-spec : {M : Type 1} → statement M
 put-text-spec =

@@ -29,7 +29,9 @@ same-length c = search needs
 -- src/areas.rt:36:1
 returns : tie.Need-returns
 unfolding areaWords
-returns c = a-line (c .before .before .before .before .before .before .before .before .before .before .put-letters .ensures) (and-then (c .before .before .before .before .before .before .put-name .ensures) (c .before .before .put-closing .ensures))
+returns c =
+    a-line (c .before .before .before .before .before .before .before .before .before .before .put-letters .ensures) (and-then
+    (c .before .before .before .before .before .before .put-name .ensures) (c .before .before .put-closing .ensures))
 
 pub put-area-spec : {M : Type 1} → statement M
 put-area-spec =

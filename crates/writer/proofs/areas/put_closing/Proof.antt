@@ -73,7 +73,10 @@ same-length-4 c = search needs
 -- src/areas.rt:25:1
 returns-4 : tie.Need-returns-4
 unfolding closingWords
-returns-4 c = rw (unnumbered 1 closingWords (c .before .before .before .before .before .before .args .n) (λ low. omega (arith, c .before .before .before .before .match .rest .1, c .before .before .before .before .match .rest .0 .1, c .before .before .before .before .match .rest .0 .0 .1))) (a-space (c .before .before .put .ensures))
+returns-4 c =
+    rw (unnumbered 1 closingWords
+    (c .before .before .before .before .before .before .args .n) (λ low. omega (arith, c .before .before .before .before .match .rest .1, c .before .before .before .before .match .rest .0 .1, c .before .before .before .before .match .rest .0 .0 .1))) (a-space
+    (c .before .before .put .ensures))
 
 pub put-closing-spec : {M : Type 1} → statement M
 put-closing-spec =

@@ -17,7 +17,9 @@ array-share-prefix-text c = let long : length (c .before .before .before .args .
 
 -- src/areas.rt:22:23
 slice-aggregate-put-word : tie.Need-slice-aggregate-put-word
-slice-aggregate-put-word c = let long : length (c .before .before .before .before .args .n .bytes) ≡ 50 = search needs in sym (length-take-le _ _ (omega (arith, c .before .before .before .before .pre)))
+slice-aggregate-put-word c =
+    let long : length
+    (c .before .before .before .before .args .n .bytes) ≡ 50 = search needs in sym (length-take-le _ _ (omega (arith, c .before .before .before .before .pre)))
 
 -- src/areas.rt:22:5
 put-word-requires : tie.Need-put-word-requires

@@ -294,7 +294,21 @@ same-length-17 c = search needs
 -- src/endings.rt:24:1
 returns-17 : tie.Need-returns-17
 unfolding compassWords
-returns-17 c = rw (no-word compassWords (c .before .before .before .before .before .before .args .direction) (past 15 (past 14 (past 13 (past 12 (past 11 (past 10 (past 9 (past 8 (past 7 (past 6 (past 5 (past 4 (past 3 (past 2 (past 1 (past 0 zero-le (c .before .before .before .before .match .rest .0 .0 .0 .0 .0 .0 .0 .0 .0 .0 .0 .0 .0 .0 .0 .1)) (c .before .before .before .before .match .rest .0 .0 .0 .0 .0 .0 .0 .0 .0 .0 .0 .0 .0 .0 .1)) (c .before .before .before .before .match .rest .0 .0 .0 .0 .0 .0 .0 .0 .0 .0 .0 .0 .0 .1)) (c .before .before .before .before .match .rest .0 .0 .0 .0 .0 .0 .0 .0 .0 .0 .0 .0 .1)) (c .before .before .before .before .match .rest .0 .0 .0 .0 .0 .0 .0 .0 .0 .0 .0 .1)) (c .before .before .before .before .match .rest .0 .0 .0 .0 .0 .0 .0 .0 .0 .0 .1)) (c .before .before .before .before .match .rest .0 .0 .0 .0 .0 .0 .0 .0 .0 .1)) (c .before .before .before .before .match .rest .0 .0 .0 .0 .0 .0 .0 .0 .1)) (c .before .before .before .before .match .rest .0 .0 .0 .0 .0 .0 .0 .1)) (c .before .before .before .before .match .rest .0 .0 .0 .0 .0 .0 .1)) (c .before .before .before .before .match .rest .0 .0 .0 .0 .0 .1)) (c .before .before .before .before .match .rest .0 .0 .0 .0 .1)) (c .before .before .before .before .match .rest .0 .0 .0 .1)) (c .before .before .before .before .match .rest .0 .0 .1)) (c .before .before .before .before .match .rest .0 .1)) (c .before .before .before .before .match .rest .1))) (a-space (c .before .before .put .ensures))
+returns-17 c =
+    rw (no-word compassWords (c .before .before .before .before .before .before .args .direction) (past 15 (past 14 (past 13 (past 12 (past 11 (past 10
+    (past 9 (past 8 (past 7 (past 6 (past 5 (past 4 (past 3 (past 2 (past 1 (past 0 zero-le
+    (c .before .before .before .before .match .rest .0 .0 .0 .0 .0 .0 .0 .0 .0 .0 .0 .0 .0 .0 .0 .1))
+    (c .before .before .before .before .match .rest .0 .0 .0 .0 .0 .0 .0 .0 .0 .0 .0 .0 .0 .0 .1))
+    (c .before .before .before .before .match .rest .0 .0 .0 .0 .0 .0 .0 .0 .0 .0 .0 .0 .0 .1))
+    (c .before .before .before .before .match .rest .0 .0 .0 .0 .0 .0 .0 .0 .0 .0 .0 .0 .1))
+    (c .before .before .before .before .match .rest .0 .0 .0 .0 .0 .0 .0 .0 .0 .0 .0 .1))
+    (c .before .before .before .before .match .rest .0 .0 .0 .0 .0 .0 .0 .0 .0 .0 .1))
+    (c .before .before .before .before .match .rest .0 .0 .0 .0 .0 .0 .0 .0 .0 .1))
+    (c .before .before .before .before .match .rest .0 .0 .0 .0 .0 .0 .0 .0 .1)) (c .before .before .before .before .match .rest .0 .0 .0 .0 .0 .0 .0 .1))
+    (c .before .before .before .before .match .rest .0 .0 .0 .0 .0 .0 .1)) (c .before .before .before .before .match .rest .0 .0 .0 .0 .0 .1))
+    (c .before .before .before .before .match .rest .0 .0 .0 .0 .1)) (c .before .before .before .before .match .rest .0 .0 .0 .1))
+    (c .before .before .before .before .match .rest .0 .0 .1)) (c .before .before .before .before .match .rest .0 .1))
+    (c .before .before .before .before .match .rest .1))) (a-space (c .before .before .put .ensures))
 
 pub put-compass-spec : {M : Type 1} → statement M
 put-compass-spec =

@@ -37,7 +37,9 @@ enum-known-ending-3 c = search needs
 
 -- src/endings.rt:111:40
 put-forecast-requires : tie.Need-put-forecast-requires
-put-forecast-requires c κs = forecast-good (c .before .before .before .before .before .args .ending) (c .before .before .before .before .before .args .forecast) _ (c .before .before .before .before .before .pre) (c .before .before .ending3 .given .1)
+put-forecast-requires c κs =
+    forecast-good (c .before .before .before .before .before .args .ending) (c .before .before .before .before .before .args .forecast) _
+    (c .before .before .before .before .before .pre) (c .before .before .ending3 .given .1)
 
 -- src/endings.rt:103:1
 returns : tie.Need-returns

@@ -37,7 +37,12 @@ same-length c = search needs
 
 -- src/endings.rt:93:1
 returns : tie.Need-returns
-returns c = and-then (c .before .before .before .before .before .before .before .before .before .before .before .before .before .before .before .put-intensity .ensures) (and-then (split-word (bytes "FCST") (bytes "AT") (c .before .before .before .before .before .before .before .before .before .before .put-word .ensures)) (and-then (c .before .before .before .before .before .before .put-time .ensures) (c .before .before .put-extent .ensures)))
+returns c =
+    and-then
+    (c .before .before .before .before .before .before .before .before .before .before .before .before .before .before .before .put-intensity .ensures)
+    (and-then (split-word (bytes "FCST") (bytes "AT")
+    (c .before .before .before .before .before .before .before .before .before .before .put-word .ensures)) (and-then
+    (c .before .before .before .before .before .before .put-time .ensures) (c .before .before .put-extent .ensures)))
 
 pub put-forecast-spec : {M : Type 1} → statement M
 put-forecast-spec =

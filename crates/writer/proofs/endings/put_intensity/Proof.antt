@@ -73,7 +73,10 @@ same-length-4 c = search needs
 -- src/endings.rt:48:1
 returns-4 : tie.Need-returns-4
 unfolding intensityWords
-returns-4 c = rw (unnumbered 1 intensityWords (c .before .before .before .before .before .before .args .n) (λ low. omega (arith, c .before .before .before .before .match .rest .1, c .before .before .before .before .match .rest .0 .1, c .before .before .before .before .match .rest .0 .0 .1))) (a-space (c .before .before .put .ensures))
+returns-4 c =
+    rw (unnumbered 1 intensityWords
+    (c .before .before .before .before .before .before .args .n) (λ low. omega (arith, c .before .before .before .before .match .rest .1, c .before .before .before .before .match .rest .0 .1, c .before .before .before .before .match .rest .0 .0 .1))) (a-space
+    (c .before .before .put .ensures))
 
 pub put-intensity-spec : {M : Type 1} → statement M
 put-intensity-spec =

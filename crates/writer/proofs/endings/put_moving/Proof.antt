@@ -36,7 +36,10 @@ same-length c = search needs
 
 -- src/endings.rt:77:1
 returns : tie.Need-returns
-returns c = and-then (c .before .before .before .before .before .before .before .before .before .before .before .before .before .before .put-word .ensures) (and-then (c .before .before .before .before .before .before .before .before .before .before .put-compass .ensures) (and-then (c .before .before .before .before .before .before .put-speed .ensures) (c .before .before .put-intensity .ensures)))
+returns c =
+    and-then (c .before .before .before .before .before .before .before .before .before .before .before .before .before .before .put-word .ensures)
+    (and-then (c .before .before .before .before .before .before .before .before .before .before .put-compass .ensures) (and-then
+    (c .before .before .before .before .before .before .put-speed .ensures) (c .before .before .put-intensity .ensures)))
 
 pub put-moving-spec : {M : Type 1} → statement M
 put-moving-spec =

@@ -33,7 +33,9 @@ same-length c = search needs
 -- src/endings.rt:69:1
 returns : tie.Need-returns
 unfolding spellSpeed
-returns c = goes-on (a-space (c .before .before .before .before .before .before .before .before .before .before .before .put .ensures)) (then (c .before .before .before .before .before .before .put-figures .ensures) (c .before .before .put-unit .ensures))
+returns c =
+    goes-on (a-space (c .before .before .before .before .before .before .before .before .before .before .before .put .ensures)) (then
+    (c .before .before .before .before .before .before .put-figures .ensures) (c .before .before .put-unit .ensures))
 
 pub put-speed-spec : {M : Type 1} → statement M
 put-speed-spec =

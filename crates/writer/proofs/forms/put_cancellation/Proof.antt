@@ -32,7 +32,10 @@ same-length c = search needs
 
 -- src/forms.rt:31:1
 returns : tie.Need-returns
-returns c = and-then (split-word (bytes "CNL") (bytes "SIGMET") (c .before .before .before .before .before .before .before .before .before .before .put-word .ensures)) (and-then (c .before .before .before .before .before .before .put-sequence .ensures) (c .before .before .put-period .ensures))
+returns c =
+    and-then (split-word (bytes "CNL") (bytes "SIGMET")
+    (c .before .before .before .before .before .before .before .before .before .before .put-word .ensures)) (and-then
+    (c .before .before .before .before .before .before .put-sequence .ensures) (c .before .before .put-period .ensures))
 
 pub put-cancellation-spec : {M : Type 1} → statement M
 put-cancellation-spec =

@@ -21,7 +21,9 @@ enum-known-form c = search needs
 
 -- src/forms.rt:57:26
 put-test-requires : tie.Need-put-test-requires
-put-test-requires c κs = test-number (c .before .before .before .before .before .before .before .before .before .before .args .r) _ (c .before .before .before .before .before .before .before .before .before .before .pre) (c .before .before .form .given .1)
+put-test-requires c κs =
+    test-number (c .before .before .before .before .before .before .before .before .before .before .args .r) _
+    (c .before .before .before .before .before .before .before .before .before .before .pre) (c .before .before .form .given .1)
 
 -- src/forms.rt:58:28
 enum-known-form-2 : tie.Need-enum-known-form-2
@@ -37,7 +39,9 @@ enum-told-2 c = search needs
 
 -- src/forms.rt:59:27
 put-report-requires : tie.Need-put-report-requires
-put-report-requires c κs = reported (c .before .before .before .before .before .before .before .before .before .args .r) (c .before .before .before .before .before .before .before .before .before .pre) (c .before .enum-told2 .given .1)
+put-report-requires c κs =
+    reported (c .before .before .before .before .before .before .before .before .before .args .r)
+    (c .before .before .before .before .before .before .before .before .before .pre) (c .before .enum-told2 .given .1)
 
 -- src/forms.rt:41:1
 returns : tie.Need-returns

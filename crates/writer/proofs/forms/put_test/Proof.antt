@@ -59,7 +59,9 @@ same-length-3 c = search needs
 -- src/forms.rt:20:1
 returns-3 : tie.Need-returns-3
 unfolding testTexts spaced
-returns-3 c = let e : c .before .before .before .before .before .before .before .args .n ≡ 3 = omega (arith, c .before .before .before .before .before .before .before .pre .0, c .before .before .before .before .before .before .before .pre .1, c .before .before .before .before .before .match .rest .1, c .before .before .before .before .before .match .rest .0 .1) in rw e (record { says = c .before .before .put-word3 .ensures .says })
+returns-3 c =
+    let e : c .before .before .before .before .before .before .before .args .n ≡ 3 = omega (arith, c .before .before .before .before .before .before .before .pre .0, c .before .before .before .before .before .before .before .pre .1, c .before .before .before .before .before .match .rest .1, c .before .before .before .before .before .match .rest .0 .1) in rw e
+    (record { says = c .before .before .put-word3 .ensures .says })
 
 pub put-test-spec : {M : Type 1} → statement M
 put-test-spec =

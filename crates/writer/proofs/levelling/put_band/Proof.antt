@@ -31,7 +31,9 @@ same-length c = search needs
 
 -- src/levelling.rt:30:1
 returns : tie.Need-returns
-returns c = goes-on (c .before .before .before .before .before .before .before .before .before .before .put-flight .ensures) (then (c .before .before .before .before .before .before .put .ensures) (c .before .before .put-figures .ensures))
+returns c =
+    goes-on (c .before .before .before .before .before .before .before .before .before .before .put-flight .ensures) (then
+    (c .before .before .before .before .before .before .put .ensures) (c .before .before .put-figures .ensures))
 
 pub put-band-spec : {M : Type 1} → statement M
 put-band-spec =

@@ -7,7 +7,7 @@ use Rattle.writer.proofs.levelling.put_level.Statement.{statement}
 use Rattle.writer.proofs.levelling.put_level.Tie as tie
 use Rattle.writer.proofs.levelling.put_level.Reads as reads
 use Rattle.writer.proofs.levelling.put_level.Lts as lts
-use Rattle.writer.proofs.levelling.feet_figures.Reads as feet-figures-reads
+use Rattle.writer.proofs.levelling.put_feet.Reads as put-feet-reads
 use Rattle.writer.proofs.levelling.put_band.Reads as put-band-reads
 use Rattle.writer.proofs.levelling.put_flight.Reads as put-flight-reads
 use Rattle.writer.proofs.levelling.put_measured.Reads as put-measured-reads
@@ -60,21 +60,9 @@ put-measured-requires c κs = search needs
 enum-known-level-4 : tie.Need-enum-known-level-4
 enum-known-level-4 c = search needs
 
--- src/levelling.rt:56:56
-slice-aggregate-put-measured-3 : tie.Need-slice-aggregate-put-measured-3
-slice-aggregate-put-measured-3 c = search needs
-
--- src/levelling.rt:56:68
-feet-figures-requires : tie.Need-feet-figures-requires
-feet-figures-requires c κs = search needs
-
--- src/levelling.rt:56:85
-slice-aggregate-put-measured-4 : tie.Need-slice-aggregate-put-measured-4
-slice-aggregate-put-measured-4 c = search needs
-
 -- src/levelling.rt:56:34
-put-measured-requires-2 : tie.Need-put-measured-requires-2
-put-measured-requires-2 c κs = search needs
+put-feet-requires : tie.Need-put-feet-requires
+put-feet-requires c κs = search needs
 
 -- src/levelling.rt:57:21
 enum-known-level-5 : tie.Need-enum-known-level-5
@@ -159,7 +147,7 @@ same-length-4 c = search needs
 -- src/levelling.rt:48:1
 returns-5 : tie.Need-returns-5
 unfolding levelWords spellLevelWord
-returns-5 c = rw (c .before .before .before .before .before .before .before .before .level4 .given .1, ← (c .before .before .before .before .feet-figures .ensures)) (c .before .before .put-measured2 .ensures)
+returns-5 c = rw (c .before .before .before .before .before .level4 .given .1) (c .before .before .put-feet .ensures)
 
 -- src/levelling.rt:48:1
 same-length-5 : tie.Need-same-length-5
@@ -213,10 +201,7 @@ put-level-spec =
     slice-aggregate-put-measured-2
     put-measured-requires
     enum-known-level-4
-    slice-aggregate-put-measured-3
-    feet-figures-requires
-    slice-aggregate-put-measured-4
-    put-measured-requires-2
+    put-feet-requires
     enum-known-level-5
     put-band-requires
     enum-known-level-6

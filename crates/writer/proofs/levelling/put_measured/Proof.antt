@@ -27,7 +27,9 @@ same-length c = search needs
 
 -- src/levelling.rt:15:1
 returns : tie.Need-returns
-returns c = goes-on (c .before .before .before .before .before .before .before .before .before .before .put-word .ensures) (then (c .before .before .before .before .before .before .put-figures .ensures) (c .before .before .put-all .ensures))
+returns c =
+    goes-on (c .before .before .before .before .before .before .before .before .before .before .put-word .ensures) (then
+    (c .before .before .before .before .before .before .put-figures .ensures) (c .before .before .put-all .ensures))
 
 pub put-measured-spec : {M : Type 1} → statement M
 put-measured-spec =

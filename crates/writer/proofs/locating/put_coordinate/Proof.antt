@@ -34,7 +34,10 @@ same-length c = search needs
 -- src/locating.rt:31:9
 returns : tie.Need-returns
 unfolding spellCoordinate
-returns c = rw (eq-eqb _ _ (c .if1 .taken), append-nil) (goes-on (a-space (c .before .before .before .before .before .before .before .before .before .before .before .before .before .put .ensures)) (then (c .before .before .before .before .before .before .before .before .before .put2 .ensures) (c .before .before .before .before .put-figures .ensures)))
+returns c =
+    rw (eq-eqb _ _ (c .if1 .taken), append-nil) (goes-on (a-space
+    (c .before .before .before .before .before .before .before .before .before .before .before .before .before .put .ensures)) (then
+    (c .before .before .before .before .before .before .before .before .before .put2 .ensures) (c .before .before .before .before .put-figures .ensures)))
 
 -- src/locating.rt:33:25
 cast-put-figures-2 : tie.Need-cast-put-figures-2
@@ -51,7 +54,11 @@ same-length-2 c = search needs
 -- src/locating.rt:24:1
 returns-2 : tie.Need-returns-2
 unfolding spellCoordinate
-returns-2 c = rw (ne-eqb _ _ (c .before .before .before .before .before .if1 .left)) (goes-on (a-space (c .before .before .before .before .before .before .before .before .before .before .before .before .before .before .before .before .before .before .put .ensures)) (then (c .before .before .before .before .before .before .before .before .before .before .before .before .before .before .put2 .ensures) (then (c .before .before .before .before .before .before .before .before .before .put-figures .ensures) (c .before .before .put-figures2 .ensures))))
+returns-2 c =
+    rw (ne-eqb _ _ (c .before .before .before .before .before .if1 .left)) (goes-on (a-space
+    (c .before .before .before .before .before .before .before .before .before .before .before .before .before .before .before .before .before .before .put .ensures))
+    (then (c .before .before .before .before .before .before .before .before .before .before .before .before .before .before .put2 .ensures) (then
+    (c .before .before .before .before .before .before .before .before .before .put-figures .ensures) (c .before .before .put-figures2 .ensures))))
 
 pub put-coordinate-spec : {M : Type 1} → statement M
 put-coordinate-spec =

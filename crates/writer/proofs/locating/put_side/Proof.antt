@@ -35,7 +35,11 @@ same-length c = search needs
 
 -- src/locating.rt:46:1
 returns : tie.Need-returns
-returns c = and-then (goes-on (a-space (c .before .before .before .before .before .before .before .before .before .before .before .before .before .before .before .put .ensures)) (c .before .before .before .before .before .before .before .before .before .before .before .put2 .ensures)) (and-then (c .before .before .before .before .before .before .put-word .ensures) (c .before .before .put-coordinate .ensures))
+returns c =
+    and-then (goes-on (a-space
+    (c .before .before .before .before .before .before .before .before .before .before .before .before .before .before .before .put .ensures))
+    (c .before .before .before .before .before .before .before .before .before .before .before .put2 .ensures)) (and-then
+    (c .before .before .before .before .before .before .put-word .ensures) (c .before .before .put-coordinate .ensures))
 
 pub put-side-spec : {M : Type 1} → statement M
 put-side-spec =

@@ -33,7 +33,10 @@ same-length c = search needs
 -- src/observing.rt:38:9
 returns : tie.Need-returns
 unfolding observationWords
-returns c = rw (c .before .before .before .before .before .before .before .before .before .if1 .taken) (and-then (c .before .before .before .before .before .before .before .before .before .before .before .before .put-observed .ensures) (and-then (c .before .before .before .before .before .before .put-word .ensures) (c .before .before .put-time .ensures)))
+returns c =
+    rw (c .before .before .before .before .before .before .before .before .before .if1 .taken) (and-then
+    (c .before .before .before .before .before .before .before .before .before .before .before .before .put-observed .ensures) (and-then
+    (c .before .before .before .before .before .before .put-word .ensures) (c .before .before .put-time .ensures)))
 
 -- src/observing.rt:31:1
 same-length-2 : tie.Need-same-length-2

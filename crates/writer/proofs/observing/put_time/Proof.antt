@@ -40,7 +40,11 @@ same-length c = search needs
 -- src/observing.rt:13:1
 returns : tie.Need-returns
 unfolding spellTime
-returns c = goes-on (a-space (c .before .before .before .before .before .before .before .before .before .before .before .before .before .before .before .before .put .ensures)) (then (c .before .before .before .before .before .before .before .before .before .before .before .put-figures .ensures) (then (c .before .before .before .before .before .before .put-figures2 .ensures) (c .before .before .put2 .ensures)))
+returns c =
+    goes-on (a-space
+    (c .before .before .before .before .before .before .before .before .before .before .before .before .before .before .before .before .put .ensures))
+    (then (c .before .before .before .before .before .before .before .before .before .before .before .put-figures .ensures) (then
+    (c .before .before .before .before .before .before .put-figures2 .ensures) (c .before .before .put2 .ensures)))
 
 pub put-time-spec : {M : Type 1} → statement M
 put-time-spec =

@@ -31,7 +31,9 @@ same-length c = search needs
 
 -- src/opening.rt:62:1
 returns-2 : tie.Need-returns-2
-returns-2 c = rw (ne-eqb _ 0 (c .before .before .before .before .before .before .before .before .before .if1 .left)) (goes-on (c .before .before .before .before .before .before .put-word .ensures) (c .before .before .put .ensures))
+returns-2 c =
+    rw (ne-eqb _ 0 (c .before .before .before .before .before .before .before .before .before .if1 .left)) (goes-on
+    (c .before .before .before .before .before .before .put-word .ensures) (c .before .before .put .ensures))
 
 pub put-correction-spec : {M : Type 1} → statement M
 put-correction-spec =

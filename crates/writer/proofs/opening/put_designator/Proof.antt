@@ -33,7 +33,9 @@ same-length c = search needs
 -- src/opening.rt:32:1
 returns : tie.Need-returns
 unfolding spellDesignator
-returns c = then (c .before .before .before .before .before .before .before .before .before .before .before .put-type .ensures) (then (c .before .before .before .before .before .before .before .put-letters .ensures) (c .before .before .put-figures .ensures))
+returns c =
+    then (c .before .before .before .before .before .before .before .before .before .before .before .put-type .ensures) (then
+    (c .before .before .before .before .before .before .before .put-letters .ensures) (c .before .before .put-figures .ensures))
 
 pub put-designator-spec : {M : Type 1} → statement M
 put-designator-spec =

@@ -39,7 +39,9 @@ same-length c = search needs
 -- src/opening.rt:47:1
 returns : tie.Need-returns
 unfolding spellGroup
-returns c = then (c .before .before .before .before .before .before .before .before .before .before .before .before .put-figures .ensures) (then (c .before .before .before .before .before .before .before .put-figures2 .ensures) (c .before .before .put-figures3 .ensures))
+returns c =
+    then (c .before .before .before .before .before .before .before .before .before .before .before .before .put-figures .ensures) (then
+    (c .before .before .before .before .before .before .before .put-figures2 .ensures) (c .before .before .put-figures3 .ensures))
 
 pub put-group-spec : {M : Type 1} → statement M
 put-group-spec =

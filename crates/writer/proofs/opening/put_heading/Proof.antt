@@ -34,7 +34,10 @@ same-length c = search needs
 -- src/opening.rt:72:1
 returns : tie.Need-returns
 unfolding headingWords
-returns c = a-line (c .before .before .before .before .before .before .before .before .before .before .before .before .before .before .put-designator .ensures) (and-then (c .before .before .before .before .before .before .before .before .before .before .put-four .ensures) (and-then (c .before .before .before .before .before .before .put-sent .ensures) (c .before .before .put-correction .ensures)))
+returns c =
+    a-line (c .before .before .before .before .before .before .before .before .before .before .before .before .before .before .put-designator .ensures)
+    (and-then (c .before .before .before .before .before .before .before .before .before .before .put-four .ensures) (and-then
+    (c .before .before .before .before .before .before .put-sent .ensures) (c .before .before .put-correction .ensures)))
 
 pub put-heading-spec : {M : Type 1} → statement M
 put-heading-spec =

@@ -51,7 +51,15 @@ same-length c = search needs
 -- src/opening.rt:118:1
 returns : tie.Need-returns
 unfolding lineWords
-returns c = a-line (c .before .before .before .before .before .before .before .before .before .before .before .before .before .before .before .before .before .before .before .before .before .before .before .before .put-letters .ensures) (and-then (c .before .before .before .before .before .before .before .before .before .before .before .before .before .before .before .before .before .before .before .put-word .ensures) (and-then (c .before .before .before .before .before .before .before .before .before .before .before .before .before .before .before .put-sequence .ensures) (and-then (c .before .before .before .before .before .before .before .before .before .before .put-word2 .ensures) (and-then (c .before .before .before .before .before .before .put-period .ensures) (c .before .before .put-office .ensures)))))
+returns c =
+    a-line
+    (c .before .before .before .before .before .before .before .before .before .before .before .before .before .before .before .before .before .before .before .before .before .before .before .before .put-letters .ensures)
+    (and-then
+    (c .before .before .before .before .before .before .before .before .before .before .before .before .before .before .before .before .before .before .before .put-word .ensures)
+    (and-then
+    (c .before .before .before .before .before .before .before .before .before .before .before .before .before .before .before .put-sequence .ensures)
+    (and-then (c .before .before .before .before .before .before .before .before .before .before .put-word2 .ensures) (and-then
+    (c .before .before .before .before .before .before .put-period .ensures) (c .before .before .put-office .ensures)))))
 
 pub put-line-spec : {M : Type 1} → statement M
 put-line-spec =

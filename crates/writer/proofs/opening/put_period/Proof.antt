@@ -32,7 +32,10 @@ same-length c = search needs
 -- src/opening.rt:100:1
 returns : tie.Need-returns
 unfolding spellPeriod
-returns c = goes-on (a-space (c .before .before .before .before .before .before .before .before .before .before .before .before .before .before .put .ensures)) (then (c .before .before .before .before .before .before .before .before .before .before .put-group .ensures) (then (c .before .before .before .before .before .before .put2 .ensures) (c .before .before .put-group2 .ensures)))
+returns c =
+    goes-on (a-space (c .before .before .before .before .before .before .before .before .before .before .before .before .before .before .put .ensures))
+    (then (c .before .before .before .before .before .before .before .before .before .before .put-group .ensures) (then
+    (c .before .before .before .before .before .before .put2 .ensures) (c .before .before .put-group2 .ensures)))
 
 pub put-period-spec : {M : Type 1} → statement M
 put-period-spec =

@@ -33,7 +33,9 @@ same-length c = search needs
 -- src/opening.rt:92:1
 returns : tie.Need-returns
 unfolding spellSequence
-returns c = goes-on (a-space (c .before .before .before .before .before .before .before .before .before .before .before .put .ensures)) (then (c .before .before .before .before .before .before .before .put-letter .ensures) (c .before .before .put-figures .ensures))
+returns c =
+    goes-on (a-space (c .before .before .before .before .before .before .before .before .before .before .before .put .ensures)) (then
+    (c .before .before .before .before .before .before .before .put-letter .ensures) (c .before .before .put-figures .ensures))
 
 pub put-sequence-spec : {M : Type 1} → statement M
 put-sequence-spec =

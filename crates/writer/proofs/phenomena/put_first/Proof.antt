@@ -93,7 +93,10 @@ same-length-2 c = search needs
 -- src/phenomena.rt:16:1
 returns-2 : tie.Need-returns-2
 unfolding phenomena same
-returns-2 c = rw (ranged firstWord (bytes "OBSC") 1 2 (c .before .before .before .before .before .before .before .before .before .args .n) refl (omega arith) (omega arith)) (c .before .before .put-word2 .ensures)
+returns-2 c =
+    rw (ranged firstWord (bytes "OBSC") 1 2
+    (c .before .before .before .before .before .before .before .before .before .args .n) refl (omega arith) (omega arith))
+    (c .before .before .put-word2 .ensures)
 
 -- src/phenomena.rt:16:1
 same-length-3 : tie.Need-same-length-3
@@ -102,7 +105,10 @@ same-length-3 c = search needs
 -- src/phenomena.rt:16:1
 returns-3 : tie.Need-returns-3
 unfolding phenomena same
-returns-3 c = rw (ranged firstWord (bytes "EMBD") 3 2 (c .before .before .before .before .before .before .before .before .before .before .args .n) refl (omega arith) (omega arith)) (c .before .before .put-word3 .ensures)
+returns-3 c =
+    rw (ranged firstWord (bytes "EMBD") 3 2
+    (c .before .before .before .before .before .before .before .before .before .before .args .n) refl (omega arith) (omega arith))
+    (c .before .before .put-word3 .ensures)
 
 -- src/phenomena.rt:16:1
 same-length-4 : tie.Need-same-length-4
@@ -111,7 +117,10 @@ same-length-4 c = search needs
 -- src/phenomena.rt:16:1
 returns-4 : tie.Need-returns-4
 unfolding phenomena same
-returns-4 c = rw (ranged firstWord (bytes "FRQ") 5 2 (c .before .before .before .before .before .before .before .before .before .before .before .args .n) refl (omega arith) (omega arith)) (c .before .before .put-word4 .ensures)
+returns-4 c =
+    rw (ranged firstWord (bytes "FRQ") 5 2
+    (c .before .before .before .before .before .before .before .before .before .before .before .args .n) refl (omega arith) (omega arith))
+    (c .before .before .put-word4 .ensures)
 
 -- src/phenomena.rt:16:1
 same-length-5 : tie.Need-same-length-5
@@ -120,7 +129,10 @@ same-length-5 c = search needs
 -- src/phenomena.rt:16:1
 returns-5 : tie.Need-returns-5
 unfolding phenomena same
-returns-5 c = rw (ranged firstWord (bytes "SQL") 7 2 (c .before .before .before .before .before .before .before .before .before .before .before .before .args .n) refl (omega arith) (omega arith)) (c .before .before .put-word5 .ensures)
+returns-5 c =
+    rw (ranged firstWord (bytes "SQL") 7 2
+    (c .before .before .before .before .before .before .before .before .before .before .before .before .args .n) refl (omega arith) (omega arith))
+    (c .before .before .put-word5 .ensures)
 
 -- src/phenomena.rt:16:1
 same-length-6 : tie.Need-same-length-6
@@ -129,7 +141,10 @@ same-length-6 c = search needs
 -- src/phenomena.rt:16:1
 returns-6 : tie.Need-returns-6
 unfolding phenomena same
-returns-6 c = rw (ranged firstWord (bytes "SEV") 9 4 (c .before .before .before .before .before .before .before .before .before .before .before .before .before .args .n) refl (omega arith) (omega arith)) (c .before .before .put-word6 .ensures)
+returns-6 c =
+    rw (ranged firstWord (bytes "SEV") 9 4
+    (c .before .before .before .before .before .before .before .before .before .before .before .before .before .args .n) refl (omega arith) (omega arith))
+    (c .before .before .put-word6 .ensures)
 
 -- src/phenomena.rt:16:1
 same-length-7 : tie.Need-same-length-7
@@ -138,7 +153,10 @@ same-length-7 c = search needs
 -- src/phenomena.rt:16:1
 returns-7 : tie.Need-returns-7
 unfolding phenomena same
-returns-7 c = rw (ranged firstWord (bytes "HVY") 13 2 (c .before .before .before .before .before .before .before .before .before .before .before .before .before .before .args .n) refl (omega arith) (omega arith)) (c .before .before .put-word7 .ensures)
+returns-7 c =
+    rw (ranged firstWord (bytes "HVY") 13 2
+    (c .before .before .before .before .before .before .before .before .before .before .before .before .before .before .args .n) refl (omega arith) (omega arith))
+    (c .before .before .put-word7 .ensures)
 
 -- src/phenomena.rt:16:1
 same-length-8 : tie.Need-same-length-8
@@ -147,7 +165,12 @@ same-length-8 c = search needs
 -- src/phenomena.rt:16:1
 returns-8 : tie.Need-returns-8
 unfolding phenomena same
-returns-8 c = let rest = other-way (c .before .before .before .before .before .if1 .came) (λ e. omega (arith, e .taken, c .before .before .before .before .before .before .before .before .pre .0)) in rw (ranged firstWord (bytes "VA") 16 2 (c .before .before .before .before .before .before .before .before .args .n) refl (past 15 (rest .6 .left) (c .before .before .before .before .before .before .match .rest .1)) (omega (arith, c .before .before .before .before .before .before .before .before .pre .1))) (c .before .before .put-word8 .ensures)
+returns-8 c =
+    let rest = other-way
+    (c .before .before .before .before .before .if1 .came) (λ e. omega (arith, e .taken, c .before .before .before .before .before .before .before .before .pre .0)) in rw (ranged firstWord (bytes "VA") 16 2
+    (c .before .before .before .before .before .before .before .before .args .n) refl (past 15 (rest .6 .left)
+    (c .before .before .before .before .before .before .match .rest .1)) (omega (arith, c .before .before .before .before .before .before .before .before .pre .1)))
+    (c .before .before .put-word8 .ensures)
 
 pub put-first-spec : {M : Type 1} → statement M
 put-first-spec =

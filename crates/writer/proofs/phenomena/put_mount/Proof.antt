@@ -23,7 +23,9 @@ put-word-requires c κs = search needs
 
 -- src/phenomena.rt:71:5
 put-name-requires : tie.Need-put-name-requires
-put-name-requires c κs = mount-fits (c .before .before .before .before .before .before .before .before .before .args .n) (c .before .before .before .before .before .before .before .before .before .pre) (c .before .before .before .before .before .before .if1 .left)
+put-name-requires c κs =
+    mount-fits (c .before .before .before .before .before .before .before .before .before .args .n)
+    (c .before .before .before .before .before .before .before .before .before .pre) (c .before .before .before .before .before .before .if1 .left)
 
 -- src/phenomena.rt:63:1
 same-length : tie.Need-same-length
@@ -31,7 +33,10 @@ same-length c = search needs
 
 -- src/phenomena.rt:63:1
 returns-2 : tie.Need-returns-2
-returns-2 c = rw (a-mount (c .before .before .before .before .before .before .before .before .before .before .before .before .args .n) (c .before .before .before .before .before .before .before .before .before .if1 .left)) (and-then (c .before .before .before .before .before .before .put-word .ensures) (c .before .before .put-name .ensures))
+returns-2 c =
+    rw (a-mount (c .before .before .before .before .before .before .before .before .before .before .before .before .args .n)
+    (c .before .before .before .before .before .before .before .before .before .if1 .left)) (and-then
+    (c .before .before .before .before .before .before .put-word .ensures) (c .before .before .put-name .ensures))
 
 pub put-mount-spec : {M : Type 1} → statement M
 put-mount-spec =

@@ -33,7 +33,16 @@ same-length c = search needs
 
 -- src/phenomena.rt:58:9
 returns : tie.Need-returns
-returns c = rw (named-words (c .before .before .before .before .before .before .before .before .before .before .before .before .before .before .before .args .n) (c .before .before .before .before .before .before .before .before .before .before .before .before .before .before .before .pre .0) (c .before .before .before .before .before .before .before .before .before .before .before .before .before .before .before .pre .1), eq-eqb _ 11 (c .before .before .before .before .before .if1 .taken)) (and-then (c .before .before .before .before .before .before .before .before .before .before .before .before .put-first .ensures) (and-then (c .before .before .before .before .before .before .before .before .put-second .ensures) (c .before .before .put-word .ensures)))
+returns c =
+    rw (
+      named-words (c .before .before .before .before .before .before .before .before .before .before .before .before .before .before .before .args .n)
+          (c .before .before .before .before .before .before .before .before .before .before .before .before .before .before .before .pre .0)
+          (c .before .before .before .before .before .before .before .before .before .before .before .before .before .before .before .pre .1),
+      eq-eqb _ 11
+          (c .before .before .before .before .before .if1 .taken),
+    ) (and-then
+    (c .before .before .before .before .before .before .before .before .before .before .before .before .put-first .ensures) (and-then
+    (c .before .before .before .before .before .before .before .before .put-second .ensures) (c .before .before .put-word .ensures)))
 
 -- src/phenomena.rt:51:1
 same-length-2 : tie.Need-same-length-2
@@ -41,7 +50,14 @@ same-length-2 c = search needs
 
 -- src/phenomena.rt:51:1
 returns-2 : tie.Need-returns-2
-returns-2 c = rw (named-words (c .before .before .before .before .before .before .before .before .before .before .args .n) (c .before .before .before .before .before .before .before .before .before .before .pre .0) (c .before .before .before .before .before .before .before .before .before .before .pre .1), ne-eqb _ 11 (c .if1 .left)) (and-then (c .before .before .before .before .before .before .before .put-first .ensures) (c .before .before .before .put-second .ensures))
+returns-2 c =
+    rw (
+      named-words (c .before .before .before .before .before .before .before .before .before .before .args .n)
+          (c .before .before .before .before .before .before .before .before .before .before .pre .0)
+          (c .before .before .before .before .before .before .before .before .before .before .pre .1),
+      ne-eqb _ 11 (c .if1 .left),
+    ) (and-then
+    (c .before .before .before .before .before .before .before .put-first .ensures) (c .before .before .before .put-second .ensures))
 
 pub put-named-spec : {M : Type 1} → statement M
 put-named-spec =

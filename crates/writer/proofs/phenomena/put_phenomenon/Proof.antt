@@ -18,7 +18,9 @@ put-named-requires c κs = phenomenon-number (c .before .before .args .n) (c .be
 
 -- src/phenomena.rt:92:9
 put-volcano-requires : tie.Need-put-volcano-requires
-put-volcano-requires c κs = erupted (c .before .before .before .before .before .before .before .args .n) (c .before .before .before .before .before .before .before .args .v) (c .before .before .before .before .before .before .before .pre) (c .before .if1 .taken)
+put-volcano-requires c κs =
+    erupted (c .before .before .before .before .before .before .before .args .n) (c .before .before .before .before .before .before .before .args .v)
+    (c .before .before .before .before .before .before .before .pre) (c .before .if1 .taken)
 
 -- src/phenomena.rt:92:9
 same-length : tie.Need-same-length
@@ -27,7 +29,9 @@ same-length c = search needs
 -- src/phenomena.rt:92:9
 returns : tie.Need-returns
 unfolding phenomenonWords
-returns c = rw (eq-eqb _ 17 (c .before .before .before .before .if1 .taken)) (and-then (c .before .before .before .before .before .before .before .put-named .ensures) (c .before .before .put-volcano .ensures))
+returns c =
+    rw (eq-eqb _ 17 (c .before .before .before .before .if1 .taken)) (and-then
+    (c .before .before .before .before .before .before .before .put-named .ensures) (c .before .before .put-volcano .ensures))
 
 -- src/phenomena.rt:86:1
 same-length-2 : tie.Need-same-length-2

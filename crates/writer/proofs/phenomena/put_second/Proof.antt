@@ -93,7 +93,9 @@ same-length c = search needs
 -- src/phenomena.rt:33:1
 returns : tie.Need-returns
 unfolding phenomena
-returns c = rw (one-of-four secondWord (bytes "TS") 1 3 5 7 (c .before .before .before .before .before .before .before .args .n) refl refl refl refl (c .before .before .before .before .before .match .keys1)) (c .before .before .put-word .ensures)
+returns c =
+    rw (one-of-four secondWord (bytes "TS") 1 3 5 7 (c .before .before .before .before .before .before .before .args .n) refl refl refl refl
+    (c .before .before .before .before .before .match .keys1)) (c .before .before .put-word .ensures)
 
 -- src/phenomena.rt:33:1
 same-length-2 : tie.Need-same-length-2
@@ -102,7 +104,9 @@ same-length-2 c = search needs
 -- src/phenomena.rt:33:1
 returns-2 : tie.Need-returns-2
 unfolding phenomena
-returns-2 c = rw (one-of-four secondWord (bytes "TSGR") 2 4 6 8 (c .before .before .before .before .before .before .before .args .n) refl refl refl refl (c .before .before .before .before .before .match .keys2)) (c .before .before .put-word2 .ensures)
+returns-2 c =
+    rw (one-of-four secondWord (bytes "TSGR") 2 4 6 8 (c .before .before .before .before .before .before .before .args .n) refl refl refl refl
+    (c .before .before .before .before .before .match .keys2)) (c .before .before .put-word2 .ensures)
 
 -- src/phenomena.rt:33:1
 same-length-3 : tie.Need-same-length-3
@@ -147,7 +151,12 @@ same-length-7 c = search needs
 -- src/phenomena.rt:33:1
 returns-7 : tie.Need-returns-7
 unfolding phenomena same
-returns-7 c = rw (ranged secondWord (bytes "ICE") 10 2 (c .before .before .before .before .before .before .before .before .before .args .n) refl (past 9 (past 8 (past 7 (past 6 (past 5 (past 4 (past 3 (past 2 (past 1 (c .before .before .before .before .before .before .before .before .before .pre .0) (λ e. c .before .before .before .before .before .before .before .match .rest .0 .0 .0 .0 .0 .1 (inl e))) (λ e. c .before .before .before .before .before .before .before .match .rest .0 .0 .0 .0 .1 (inl e))) (λ e. c .before .before .before .before .before .before .before .match .rest .0 .0 .0 .0 .0 .1 (inr (inl e)))) (λ e. c .before .before .before .before .before .before .before .match .rest .0 .0 .0 .0 .1 (inr (inl e)))) (λ e. c .before .before .before .before .before .before .before .match .rest .0 .0 .0 .0 .0 .1 (inr (inr (inl e))))) (λ e. c .before .before .before .before .before .before .before .match .rest .0 .0 .0 .0 .1 (inr (inr (inl e))))) (λ e. c .before .before .before .before .before .before .before .match .rest .0 .0 .0 .0 .0 .1 (inr (inr (inr e))))) (λ e. c .before .before .before .before .before .before .before .match .rest .0 .0 .0 .0 .1 (inr (inr (inr e))))) (c .before .before .before .before .before .before .before .match .rest .0 .0 .0 .1)) (c .before .before .before .before .before .if2 .taken)) (c .before .before .put-word7 .ensures)
+returns-7 c =
+    rw (ranged secondWord (bytes "ICE") 10 2 (c .before .before .before .before .before .before .before .before .before .args .n) refl (past 9 (past 8
+    (past 7 (past 6 (past 5 (past 4 (past 3 (past 2 (past 1
+    (c .before .before .before .before .before .before .before .before .before .pre .0) (λ e. c .before .before .before .before .before .before .before .match .rest .0 .0 .0 .0 .0 .1 (inl e))) (λ e. c .before .before .before .before .before .before .before .match .rest .0 .0 .0 .0 .1 (inl e))) (λ e. c .before .before .before .before .before .before .before .match .rest .0 .0 .0 .0 .0 .1 (inr (inl e)))) (λ e. c .before .before .before .before .before .before .before .match .rest .0 .0 .0 .0 .1 (inr (inl e)))) (λ e. c .before .before .before .before .before .before .before .match .rest .0 .0 .0 .0 .0 .1 (inr (inr (inl e))))) (λ e. c .before .before .before .before .before .before .before .match .rest .0 .0 .0 .0 .1 (inr (inr (inl e))))) (λ e. c .before .before .before .before .before .before .before .match .rest .0 .0 .0 .0 .0 .1 (inr (inr (inr e))))) (λ e. c .before .before .before .before .before .before .before .match .rest .0 .0 .0 .0 .1 (inr (inr (inr e)))))
+    (c .before .before .before .before .before .before .before .match .rest .0 .0 .0 .1)) (c .before .before .before .before .before .if2 .taken))
+    (c .before .before .put-word7 .ensures)
 
 -- src/phenomena.rt:33:1
 same-length-8 : tie.Need-same-length-8
@@ -156,7 +165,10 @@ same-length-8 c = search needs
 -- src/phenomena.rt:33:1
 returns-8 : tie.Need-returns-8
 unfolding phenomena same
-returns-8 c = rw (ranged secondWord (bytes "CLD") 15 2 (c .before .before .before .before .before .before .before .before .before .before .args .n) refl (omega arith) (omega arith)) (c .before .before .put-word8 .ensures)
+returns-8 c =
+    rw (ranged secondWord (bytes "CLD") 15 2
+    (c .before .before .before .before .before .before .before .before .before .before .args .n) refl (omega arith) (omega arith))
+    (c .before .before .put-word8 .ensures)
 
 -- src/phenomena.rt:33:1
 same-length-9 : tie.Need-same-length-9
@@ -165,7 +177,11 @@ same-length-9 c = search needs
 -- src/phenomena.rt:33:1
 returns-9 : tie.Need-returns-9
 unfolding phenomena same
-returns-9 c = let rest = other-way (c .before .before .before .before .before .if1 .came) (λ e. omega (arith, e .taken, c .before .before .before .before .before .before .before .before .pre .0)) in rw (ranged secondWord (bytes "ERUPTION") 17 1 (c .before .before .before .before .before .before .before .before .args .n) refl (rest .2 .left) (omega (arith, c .before .before .before .before .before .before .before .before .pre .1))) (c .before .before .put-word9 .ensures)
+returns-9 c =
+    let rest = other-way
+    (c .before .before .before .before .before .if1 .came) (λ e. omega (arith, e .taken, c .before .before .before .before .before .before .before .before .pre .0)) in rw (ranged secondWord (bytes "ERUPTION") 17 1
+    (c .before .before .before .before .before .before .before .before .args .n) refl (rest .2 .left) (omega (arith, c .before .before .before .before .before .before .before .before .pre .1)))
+    (c .before .before .put-word9 .ensures)
 
 pub put-second-spec : {M : Type 1} → statement M
 put-second-spec =

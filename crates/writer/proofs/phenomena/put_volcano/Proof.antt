@@ -41,7 +41,12 @@ same-length c = search needs
 
 -- src/phenomena.rt:74:1
 returns : tie.Need-returns
-returns c = and-then (c .before .before .before .before .before .before .before .before .before .before .before .before .before .before .before .before .put-mount .ensures) (and-then (c .before .before .before .before .before .before .before .before .before .before .before .put-word .ensures) (and-then (c .before .before .before .before .before .before .before .put-point .ensures) (split-word (bytes "VA") (bytes "CLD") (c .before .before .put-word2 .ensures))))
+returns c =
+    and-then
+    (c .before .before .before .before .before .before .before .before .before .before .before .before .before .before .before .before .put-mount .ensures)
+    (and-then (c .before .before .before .before .before .before .before .before .before .before .before .put-word .ensures) (and-then
+    (c .before .before .before .before .before .before .before .put-point .ensures) (split-word (bytes "VA") (bytes "CLD")
+    (c .before .before .put-word2 .ensures))))
 
 pub put-volcano-spec : {M : Type 1} → statement M
 put-volcano-spec =

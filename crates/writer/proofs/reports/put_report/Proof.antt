@@ -15,7 +15,13 @@ use Rattle.writer.proofs.phenomena.put_phenomenon.Reads as put-phenomen
 
 -- src/reports.rt:23:9
 put-phenomenon-requires : tie.Need-put-phenomenon-requires
-put-phenomenon-requires c κs = record { kind = c .before .before .before .before .before .before .pre .kind; holds = report-parts (c .before .before .before .before .before .before .pre .kind) (c .before .before .before .before .before .before .args .r) (c .before .before .before .before .before .before .pre .holds) .phenomenon }
+put-phenomenon-requires c κs =
+    record {
+      kind = c .before .before .before .before .before .before .pre .kind;
+      holds = report-parts
+          (c .before .before .before .before .before .before .pre .kind) (c .before .before .before .before .before .before .args .r)
+          (c .before .before .before .before .before .before .pre .holds) .phenomenon;
+    }
 
 -- src/reports.rt:24:9
 put-observation-requires : tie.Need-put-observation-requires
@@ -23,7 +29,10 @@ put-observation-requires c κs = search needs
 
 -- src/reports.rt:25:9
 put-extent-requires : tie.Need-put-extent-requires
-put-extent-requires c κs = report-parts (c .before .before .before .before .before .before .before .before .before .before .before .before .before .before .pre .kind) (c .before .before .before .before .before .before .before .before .before .before .before .before .before .before .args .r) (c .before .before .before .before .before .before .before .before .before .before .before .before .before .before .pre .holds) .extent
+put-extent-requires c κs =
+    report-parts (c .before .before .before .before .before .before .before .before .before .before .before .before .before .before .pre .kind)
+    (c .before .before .before .before .before .before .before .before .before .before .before .before .before .before .args .r)
+    (c .before .before .before .before .before .before .before .before .before .before .before .before .before .before .pre .holds) .extent
 
 -- src/reports.rt:26:9
 put-level-requires : tie.Need-put-level-requires
@@ -31,7 +40,14 @@ put-level-requires c κs = search needs
 
 -- src/reports.rt:27:5
 put-ending-requires : tie.Need-put-ending-requires
-put-ending-requires c κs = record { kind = c .before .before .before .before .before .before .before .before .before .before .before .before .before .before .before .before .before .before .before .before .before .before .pre .kind; holds = report-parts (c .before .before .before .before .before .before .before .before .before .before .before .before .before .before .before .before .before .before .before .before .before .before .pre .kind) (c .before .before .before .before .before .before .before .before .before .before .before .before .before .before .before .before .before .before .before .before .before .before .args .r) (c .before .before .before .before .before .before .before .before .before .before .before .before .before .before .before .before .before .before .before .before .before .before .pre .holds) .ending }
+put-ending-requires c κs =
+    record {
+      kind = c .before .before .before .before .before .before .before .before .before .before .before .before .before .before .before .before .before .before .before .before .before .before .pre .kind;
+      holds = report-parts
+          (c .before .before .before .before .before .before .before .before .before .before .before .before .before .before .before .before .before .before .before .before .before .before .pre .kind)
+          (c .before .before .before .before .before .before .before .before .before .before .before .before .before .before .before .before .before .before .before .before .before .before .args .r)
+          (c .before .before .before .before .before .before .before .before .before .before .before .before .before .before .before .before .before .before .before .before .before .before .pre .holds) .ending;
+    }
 
 -- src/reports.rt:13:1
 same-length : tie.Need-same-length
@@ -40,7 +56,13 @@ same-length c = search needs
 -- src/reports.rt:13:1
 returns : tie.Need-returns
 unfolding reportWords
-returns c = and-then (c .before .before .before .before .before .before .before .before .before .before .before .before .before .before .before .before .before .before .put-phenomenon .ensures) (and-then (c .before .before .before .before .before .before .before .before .before .before .before .before .before .before .put-observation .ensures) (and-then (c .before .before .before .before .before .before .before .before .before .before .put-extent .ensures) (and-then (c .before .before .before .before .before .before .put-level .ensures) (c .before .before .put-ending .ensures))))
+returns c =
+    and-then
+    (c .before .before .before .before .before .before .before .before .before .before .before .before .before .before .before .before .before .before .put-phenomenon .ensures)
+    (and-then
+    (c .before .before .before .before .before .before .before .before .before .before .before .before .before .before .put-observation .ensures)
+    (and-then (c .before .before .before .before .before .before .before .before .before .before .put-extent .ensures) (and-then
+    (c .before .before .before .before .before .before .put-level .ensures) (c .before .before .put-ending .ensures))))
 
 pub put-report-spec : {M : Type 1} → statement M
 put-report-spec =

@@ -1,0 +1,32 @@
+-- The public contracts of this crate settle reply and buffer: two outcomes that one allows on the same arguments are equal.
+-- Assumes nothing.
+use mathlib.Core.Path.{ap}
+use Rattle.lists.proofs.Determined.{Settles}
+use Rattle.pens.specs.Pens.{Pen}
+use Rattle.pens.proofs.PenLaws.{puts-same, words-same}
+use Rattle.pens.proofs.put.Kinds as put-kinds
+use Rattle.pens.proofs.put.Reads as put-reads
+use Rattle.pens.proofs.put_all.Kinds as put-all-kinds
+use Rattle.pens.proofs.put_all.Reads as put-all-reads
+use Rattle.pens.proofs.put_word.Kinds as put-word-kinds
+use Rattle.pens.proofs.put_word.Reads as put-word-reads
+use Rattle.pens.proofs.put_figures.Kinds as put-figures-kinds
+use Rattle.pens.proofs.put_figures.Reads as put-figures-reads
+use Rattle.pens.proofs.put_letters.Kinds as put-letters-kinds
+use Rattle.pens.proofs.put_letters.Reads as put-letters-reads
+
+-- a pen is a reply with a page: the two parts of an outcome
+pub put-settles : Settles 1 put-kinds.ps put-kinds.r put-reads.Learnt
+put-settles κs a r s x y p q = (ap (λ (z : Pen). z .at) (puts-same p q), ap (λ (z : Pen). (z .page, x .1)) (puts-same p q))
+
+pub put-all-settles : Settles 2 put-all-kinds.ps put-all-kinds.r put-all-reads.Learnt
+put-all-settles κs a r s x y p q = (ap (λ (z : Pen). z .at) (puts-same p q), ap (λ (z : Pen). (z .page, x .1)) (puts-same p q))
+
+pub put-word-settles : Settles 2 put-word-kinds.ps put-word-kinds.r put-word-reads.Learnt
+put-word-settles κs a r s x y p q = (ap (λ (z : Pen). z .at) (words-same p q), ap (λ (z : Pen). (z .page, x .1)) (words-same p q))
+
+pub put-figures-settles : Settles 1 put-figures-kinds.ps put-figures-kinds.r put-figures-reads.Learnt
+put-figures-settles κs a r s x y p q = (ap (λ (z : Pen). z .at) (puts-same p q), ap (λ (z : Pen). (z .page, x .1)) (puts-same p q))
+
+pub put-letters-settles : Settles 1 put-letters-kinds.ps put-letters-kinds.r put-letters-reads.Learnt
+put-letters-settles κs a r s x y p q = (ap (λ (z : Pen). z .at) (puts-same p q), ap (λ (z : Pen). (z .page, x .1)) (puts-same p q))

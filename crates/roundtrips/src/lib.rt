@@ -1,0 +1,1 @@
+// No code: the theorems are about the contracts of `read` and `write`.
