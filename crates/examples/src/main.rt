@@ -1,11 +1,14 @@
-// Runs the example texts through the reader and compares each reply with the expected one. Texts and replies stand in the file `stdin`, a
-// line each, and not in the source: a byte of a literal costs the checker a millisecond, and every call more.
+// Runs the example texts through the reader, and the records read through the writer, and compares each reply and each canonical text with the
+// expected one. They stand in the file `stdin`, a line each, and not in the source: a byte of a literal costs the checker a millisecond, and
+// every call more.
 ghost use mathlib.Core.Path.{_≡_};
 ghost use lib.ListN.{length};
 
 mod judging;
 mod lines;
+mod replies;
 mod texts;
+mod writing;
 
 use judging::Tally;
 use judging::judge;
@@ -21,7 +24,7 @@ fn main() {
     io::write_all(1, b" wrong\n");
 }
 
-// Room for the table, which has some 76,000 bytes.
+// Room for the table, which has some 89,000 bytes.
 fn room() -> [u8; 131072]
     ensures { λ r. ⌜ 131072 ≡ length r ⌝ }
 {

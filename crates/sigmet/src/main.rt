@@ -1,5 +1,8 @@
-// The program: one bulletin on standard input, at most 2,049 bytes of it. It prints the refusal number, a space, the place and LF.
+// The program: one bulletin on standard input, at most 2,049 bytes of it. It prints the refusal number, a space, the place and LF; on 0 also
+// the canonical text and LF.
+use message::Record;
 use reader::read;
+use writer::write;
 
 fn main() {
     // One byte more than the longest bulletin, so that a longer one is seen as such.
@@ -9,5 +12,16 @@ fn main() {
     io::print_decimal(1, reply.number as u64);
     io::write_all(1, b" ");
     io::print_decimal(1, reply.place as u64);
+    io::write_all(1, b"\n");
+    if reply.number == 0 {
+        print_text(reply.message);
+    }
+}
+
+// A text has at most 2,048 bytes.
+fn print_text(message: Record) {
+    let mut text = [0; 2048];
+    let written = write(message, &mut text);
+    io::write_all(1, &text[..written.count]);
     io::write_all(1, b"\n");
 }

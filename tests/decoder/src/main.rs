@@ -1,4 +1,4 @@
-//! decoder [read] | generate SEED COUNT | tables SEED COUNT FOLDER | compare SEED COUNT PROGRAM [ARGUMENT...]
+//! decoder [read] | generate SEED COUNT | tables SEED COUNT FOLDER | judge | compare SEED COUNT PROGRAM [ARGUMENT...]
 
 mod compare;
 mod decode;
@@ -34,6 +34,7 @@ fn main() {
             }
         }
         ["tables", seed, count, folder] => table::write(number(seed), number(count), folder).expect("the folder"),
+        ["judge"] => print!("{}", table::judge(&std::io::read_to_string(std::io::stdin()).expect("standard input"))),
         ["compare", seed, count, program, ref rest @ ..] => {
             if !compare::compare(program, rest, number(seed), number(count)) {
                 exit(1);
@@ -44,6 +45,6 @@ fn main() {
 }
 
 fn usage() -> ! {
-    eprintln!("usage: decoder [read] | generate SEED COUNT | tables SEED COUNT FOLDER | compare SEED COUNT PROGRAM [ARGUMENT...]");
+    eprintln!("usage: decoder [read] | generate SEED COUNT | tables SEED COUNT FOLDER | judge | compare SEED COUNT PROGRAM [ARGUMENT...]");
     exit(2)
 }

@@ -1,12 +1,12 @@
-//! Bulletins with their replies as tables for the program `examples`, which reads a whole table in one run.
+//! Tables of the program `examples`, which reads a whole one in one run: bulletins with their replies, written here and read here.
 
-use crate::decode::decode;
+use crate::decode::{decode, Reply};
 use crate::generate::{bulletin, CLASSES};
 
 /// `examples` has room for 131,072 bytes.
 const ROOM: usize = 120_000;
 
-/// Bytes as `examples` takes them: `\xHH` for all but letters, digits and the signs that a word may have; a run of 128 spaces is `\s`.
+/// Bytes as `examples` takes them: `\s` for 128 spaces, `\xHH` for what is no ASCII and for the two signs that the table itself has.
 fn escaped(text: &[u8]) -> String {
     let mut out = String::new();
     let mut i = 0;
@@ -20,8 +20,7 @@ fn escaped(text: &[u8]) -> String {
         match b {
             b'\r' => out.push_str("\\r"),
             b'\n' => out.push_str("\\n"),
-            b'\\' => out.push_str("\\x5c"),
-            b' '..=b'~' => out.push(b as char),
+            b' '..=b'~' if b != b'\\' && b != b'|' => out.push(b as char),
             _ => out.push_str(&format!("\\x{b:02x}")),
         }
         i += 1;
@@ -29,13 +28,26 @@ fn escaped(text: &[u8]) -> String {
     out
 }
 
+/// The texts of a row: the bulletin, and its canonical text where it has one and that is another.
+fn texts(bulletin: &[u8], reply: &Reply) -> String {
+    if reply.number != 0 || reply.canonical == bulletin {
+        return escaped(bulletin);
+    }
+    format!("{}|{}", escaped(bulletin), escaped(&reply.canonical))
+}
+
+/// The row of this bulletin.
+pub fn row(seed: u64, index: u64) -> String {
+    let (class, text) = bulletin(seed, index);
+    let reply = decode(&text);
+    format!("{}-{index} {} {} {}\n", CLASSES[class], reply.number, reply.place, texts(&text, &reply))
+}
+
 /// Writes the tables FOLDER/0, FOLDER/1, …
 pub fn write(seed: u64, count: u64, folder: &str) -> std::io::Result<()> {
     let (mut table, mut number) = (String::new(), 0);
     for index in 0..count {
-        let (class, text) = bulletin(seed, index);
-        let reply = decode(&text);
-        let line = format!("{}-{index} {} {} {}\n", CLASSES[class], reply.number, reply.place, escaped(&text));
+        let line = row(seed, index);
         if table.len() + line.len() > ROOM {
             std::fs::write(format!("{folder}/{number}"), &table)?;
             table.clear();
@@ -44,4 +56,46 @@ pub fn write(seed: u64, count: u64, folder: &str) -> std::io::Result<()> {
         table.push_str(&line);
     }
     std::fs::write(format!("{folder}/{number}"), &table)
+}
+
+/// What stands for a byte in a table, and how long that is.
+fn piece(text: &str) -> (Vec<u8>, usize) {
+    let mark = text.as_bytes().get(1);
+    match (text.as_bytes()[0], mark) {
+        (b'\\', Some(b'r')) => (vec![b'\r'], 2),
+        (b'\\', Some(b'n')) => (vec![b'\n'], 2),
+        (b'\\', Some(b's')) => (vec![b' '; 128], 2),
+        (b'\\', Some(b'x')) => (vec![u8::from_str_radix(&text[2..4], 16).expect("two digits")], 4),
+        (byte, _) => (vec![byte], 1),
+    }
+}
+
+fn unescaped(mut text: &str) -> Vec<u8> {
+    let mut out = Vec::new();
+    while !text.is_empty() {
+        let (bytes, length) = piece(text);
+        out.extend(bytes);
+        text = &text[length..];
+    }
+    out
+}
+
+/// What `examples` prints for a row: its reply here, and whether that and the canonical text are the expected ones.
+fn judged(row: &str) -> String {
+    let parts: Vec<&str> = row.splitn(4, ' ').collect();
+    let texts = parts.get(3).copied().unwrap_or("");
+    let (bulletin, canonical) = texts.split_once('|').unwrap_or((texts, texts));
+    let reply = decode(&unescaped(bulletin));
+    let given = format!("{} {}", reply.number, reply.place);
+    let same = given == parts[1..3].join(" ") && (reply.number != 0 || reply.canonical == unescaped(canonical));
+    format!("{}: {given} {}\n", parts[0], if same { "ok" } else { "WRONG" })
+}
+
+/// What `examples` prints for a table where the decoder is right.
+pub fn judge(table: &str) -> String {
+    let rows = table.lines().filter(|row| !row.is_empty() && !row.starts_with('#'));
+    let mut out: String = rows.map(judged).collect();
+    let (ok, all) = (out.lines().filter(|line| line.ends_with(" ok")).count(), out.lines().count());
+    out.push_str(&format!("{ok} ok, {} wrong\n", all - ok));
+    out
 }

@@ -1,5 +1,6 @@
 use crate::decode::decode;
 use crate::generate::{bulletin, may_follow, CLASSES};
+use crate::table::{judge, row};
 use crate::words::cut;
 
 const SAMPLE: &str = "WSZZ31 QAAA 180830\r\nQBBB SIGMET 1 VALID 180830/181230 QAAA-\r\n\
@@ -128,4 +129,17 @@ fn beginnings_can_be_ended() {
             words.push(next.unwrap_or_else(|| panic!("no way on: {}", words.join(" "))));
         }
     }
+}
+
+/// A row is read as it was written, whatever its bytes; another number or another canonical text is wrong.
+#[test]
+fn rows_are_read_back() {
+    let table: String = (0..10_000).map(|index| row(9, index)).collect();
+    assert!(judge(&table).ends_with("\n10000 ok, 0 wrong\n"));
+    let sample = SAMPLE.replace("\r\n", "\\r\\n");
+    let one_line = SAMPLE.replace("\r\n", " ");
+    assert_eq!(judge(&format!("a 0 0 {sample}\n")), "a: 0 0 ok\n1 ok, 0 wrong\n");
+    assert_eq!(judge(&format!("a 0 0 {one_line}|{sample}\n")), "a: 0 0 ok\n1 ok, 0 wrong\n");
+    assert_eq!(judge(&format!("a 0 0 {one_line}\n")), "a: 0 0 WRONG\n0 ok, 1 wrong\n");
+    assert_eq!(judge(&format!("a 9 100 {sample}\n")), "a: 0 0 WRONG\n0 ok, 1 wrong\n");
 }
