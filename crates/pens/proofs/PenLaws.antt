@@ -6,7 +6,6 @@ use Prim.Native.Nat.{ℕ, zero, suc, _+_, _-_, _/_, _%_, _≤_, _<_}
 use native.Mathlib.Nat.{add-zero, zero-add}
 use native.Mathlib.Numerals.{add-one, sub-one}
 use native.Mathlib.Omega.{arith}
-use lib.Dec.{ltb}
 use lib.ListN.{length, getD, take, drop, set, length-set}
 use lib.Seq.{take-all, take-suc, sets, sets-eq}
 use borrow.Author.Tests.{lt-ltb, le-ltb}
@@ -16,7 +15,7 @@ use Rattle.pens.specs.Pens.{Pen, pen, stroke, strokes, Puts, spaced, Wor
 
 -- Texts.
 
-pub strokes-append : (a b : List ℕ) (p : Pen) → strokes (a ++ b) p ≡ strokes b (strokes a p)
+strokes-append : (a b : List ℕ) (p : Pen) → strokes (a ++ b) p ≡ strokes b (strokes a p)
 unfolding strokes
 strokes-append [] b p = refl
 strokes-append (x ∷ a) b p = strokes-append a b (stroke x p)
@@ -95,7 +94,7 @@ goes-on {w} {x} {at} {n} {m} {page} f g =
 
 -- Lines.
 
-pub line-spaced : (w : List ℕ) (ws : List (List ℕ)) → line (w ∷ ws) ≡ w ++ spaced ws
+line-spaced : (w : List ℕ) (ws : List (List ℕ)) → line (w ∷ ws) ≡ w ++ spaced ws
 unfolding line spaced
 line-spaced w [] = sym (append-nil w)
 line-spaced w (v ∷ ws) = ap (λ (t : List ℕ). w ++ (32 ∷ t)) (line-spaced v ws)

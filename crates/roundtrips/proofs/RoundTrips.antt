@@ -52,15 +52,15 @@ module _ {r : Record} {buffer after : List ℕ} {w : Written} where
   fourteen-exactly m = at-fourteen (ends m)
 
   -- A good record whose text has room is written whole, from the front on, and the bytes past it are as they were.
-  pub good-written : good r ≡ true → length (textOf r) ≤ length buffer → MayWrite r buffer w after
+  pub written-whole : good r ≡ true → length (textOf r) ≤ length buffer → MayWrite r buffer w after
       → (w .number ≡ 0) × (w .count ≡ length (textOf r)) × (after ≡ textOf r ++ drop (length (textOf r)) buffer)
-  good-written g h m = put-whole (ends m) g h
+  written-whole g h m = put-whole (ends m) g h
 
   -- The bytes written are the canonical text of the record, …
   pub written-text : MayWrite r buffer w after → w .number ≡ 0 → take (w .count) after ≡ textOf r
   written-text m e =
       let fine = zero-exactly m .0 e in
-      let out = good-written (fine .0) (fine .1) m in
+      let out = written-whole (fine .0) (fine .1) m in
       rw (out .1, out .2) (take-append-seam (textOf r) (drop (length (textOf r)) buffer))
 
   -- … and in canonical layout.
@@ -71,7 +71,7 @@ module _ {r : Record} {buffer after : List ℕ} {w : Written} where
 pub written-then-read : {r : Record} {buffer after : List ℕ} {w : Written} {p : Reply} → good r ≡ true → length (textOf r) ≤ length buffer
     → MayWrite r buffer w after → MayRead (take (w .count) after) p → (w .number ≡ 0) × (p ≡ acceptance r)
 written-then-read {r} g h m n =
-    let done = good-written g h m .0 in
+    let done = written-whole g h m .0 in
     (done, reads n ∙ (ap readOf (written-text m done) ∙ grammar.good-text-read r g))
 
 -- The same with a buffer that has room for every text.

@@ -35,7 +35,7 @@ pub record MayWrite (message : Record) (buffer : List ℕ) (w : Written) (after 
   pub allowed : write-reads.Learnt lent (message, (slice place name buffer, tt)) w (message, (slice place name after, tt))
 
 -- "13 bad record; …; 14 buffer shorter than what would be written. Count 0, buffer untouched. On success … the bytes past the count stay":
--- the number, the count and the buffer afterwards
+-- the number, the count and the buffer afterwards. 24 is no outcome: no good record's text has over 2,048 bytes (`text-fits`)
 pub data Outcome (r : Record) (buffer : List ℕ) : ℕ → ℕ → List ℕ → Type 0 where
   bad : good r ≡ false → Outcome r buffer 13 0 buffer
   short : good r ≡ true → length buffer < length (textOf r) → Outcome r buffer 14 0 buffer

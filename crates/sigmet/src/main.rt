@@ -18,7 +18,7 @@ fn main() {
     }
 }
 
-// A text has at most 2,048 bytes.
+// The record of a reply that refuses nothing is good, and its text has at most 2,048 bytes: so it is written.
 fn print_text(message: Record) {
     let mut text = [0; 2048];
     let written = write(message, &mut text);

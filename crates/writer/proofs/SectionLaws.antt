@@ -3,37 +3,37 @@
 use mathlib.Core.Bool.{Bool, true, false}
 use mathlib.Core.List.{List, [], _∷_, _++_, append-assoc, append-nil}
 use mathlib.Core.Path.{_≡_, refl, ap, sym, _∙_}
-use Prim.Native.Nat.{ℕ, zero, suc, _+_, _-_, _≤_, _<_, zero-le}
-use native.Mathlib.Numerals.{add-one, sub-one}
+use Prim.Native.Nat.{ℕ, zero, suc, _+_, _-_, _≤_, _<_}
+use native.Mathlib.Numerals.{sub-one}
 use native.Mathlib.Omega.{arith}
 use lib.Dec.{eqb}
-use lib.ListN.{length, getD, take, drop}
-use lib.Seq.{take-suc, getD-drop}
-use borrow.Author.Tests.{eqb-true, eqb-false, eq-eqb, ne-eqb}
-use Rattle.lists.specs.Choice.{pick, both, either}
+use lib.ListN.{length, getD, take}
+use lib.Seq.{take-suc}
+use borrow.Author.Tests.{eqb-true, ne-eqb}
+use Rattle.lists.specs.Choice.{pick, both}
 use Rattle.lists.specs.Lists.{part, same}
 use Rattle.lists.specs.Text.{bytes}
 use Rattle.lists.proofs.Choice.{by, clash, both-left, both-right, both-false-left, either-cases}
 use Rattle.lists.proofs.Lists.{same-is}
 use Rattle.words.proofs.Ranges.{between-low, between-high}
-use Rattle.coordinates.specs.Coordinates.{Axis, northSouth, eastWest, spellCoordinate}
-use Rattle.coordinates.specs.Points.{noPoint, pointWords}
+use Rattle.coordinates.specs.Coordinates.{Axis, northSouth, eastWest}
+use Rattle.coordinates.specs.Points.{pointWords}
 use Rattle.coordinates.specs.declared.Point.{Point}
 use Rattle.names.specs.Names.{onto, pieces}
 use Rattle.names.proofs.NameLaws.{pieces-some}
 use Rattle.message.specs.Limits.{mountainLimit}
-use Rattle.message.specs.Locations.{goodSide, emptySide, goodBound, sideWords, boundWords, dashed, joined}
-use Rattle.message.specs.Names.{goodName, emptyName, nameWords, unusedZero}
-use Rattle.message.specs.Reports.{phenomena, goodVolcano, mountWords, volcanoWords, phenomenonWords}
+use Rattle.message.specs.Locations.{goodSide, emptySide, goodBound, dashed, joined}
+use Rattle.message.specs.Names.{goodName, emptyName, unusedZero}
+use Rattle.message.specs.Reports.{phenomena, goodVolcano}
 use Rattle.message.specs.declared.Bound.{Bound}
 use Rattle.message.specs.declared.Name.{Name}
 use Rattle.message.specs.declared.Side.{Side}
 use Rattle.message.specs.declared.Volcano.{Volcano}
 use Rattle.message.proofs.Goodness.{name-parts, side-parts, bound-cases, phenomenon-cases}
 use Rattle.pens.specs.Pens.{pen, strokes, spaced, Words}
-use Rattle.pens.proofs.PenLaws.{no-words, and-then}
+use Rattle.pens.proofs.PenLaws.{and-then}
 use Rattle.writer.specs.Writing.{GoodPhenomenon, GoodMount, namedWords, firstWord, secondWord}
-use Rattle.writer.proofs.Tables.{stretch, stretched}
+use Rattle.writer.proofs.Tables.{stretched}
 
 -- Names.
 

@@ -1,9 +1,9 @@
 -- Numbers and the words of tables: a number that is in no table, and a stretch of numbers that have one word.
 -- Assumes nothing.
-use mathlib.Core.Bool.{Bool, true, false}
+use mathlib.Core.Bool.{Bool, true}
 use mathlib.Core.List.{List, []}
 use mathlib.Core.Logic.{_⊎_, inl, inr}
-use mathlib.Core.Path.{_≡_, refl, ap, sym, _∙_}
+use mathlib.Core.Path.{_≡_, ap, _∙_}
 use Prim.Native.Nat.{ℕ, zero, suc, _+_, _-_, _≤_, _<_}
 use native.Mathlib.Omega.{arith}
 use lib.Dec.{eqb, ltb}
@@ -26,7 +26,7 @@ unnumbered first table n h =
     (λ f. rw (f, no-word table (n - first) (h (ltb-false n first f))))
 
 -- a test of every number from `first` on, so many of them
-abbrev pub stretch : ℕ → ℕ → (ℕ → Bool) → Bool
+abbrev stretch : ℕ → ℕ → (ℕ → Bool) → Bool
 stretch first zero f = true
 stretch first (suc count) f = both (f first) (stretch (suc first) count f)
 

@@ -2,7 +2,7 @@
 -- Assumes nothing.
 use mathlib.Core.Bool.{true, false}
 use mathlib.Core.List.{List, _++_}
-use mathlib.Core.Path.{_≡_, refl, sym, subst, _∙_}
+use mathlib.Core.Path.{_≡_}
 use Prim.Native.Nat.{ℕ, _-_, _≤_, _<_}
 use native.Mathlib.Omega.{arith}
 use lib.ListN.{length, take, drop}
@@ -12,7 +12,7 @@ use Rattle.lists.proofs.Choice.{both-left}
 use Rattle.words.specs.Bytes.{between}
 use Rattle.words.proofs.Ranges.{between-low, between-high}
 use Rattle.message.specs.Limits.{nameBytes}
-use Rattle.message.specs.Locations.{goodBound, goodOutline, goodExtent, noPoints}
+use Rattle.message.specs.Locations.{goodBound, goodExtent, noPoints}
 use Rattle.message.specs.Records.{goodForm, good}
 use Rattle.message.specs.Words.{textOf}
 use Rattle.message.specs.declared.Bound.{Bound}
@@ -21,11 +21,10 @@ use Rattle.message.specs.declared.Ending.the-variants.{Forecast}
 use Rattle.message.specs.declared.Extent.{Extent}
 use Rattle.message.specs.declared.Form.{Form}
 use Rattle.message.specs.declared.Form.the-variants.{Test, Reported}
-use Rattle.message.specs.declared.Location.{Location}
 use Rattle.message.specs.declared.Location.the-variants.{Bounded, Outline}
 use Rattle.message.specs.declared.Record.{Record}
 use Rattle.message.proofs.Goodness.{good-parts, area-parts, name-parts, outline-parts, forecast-parts}
-use Rattle.grammar.specs.Writes.{Wrote, writeOf}
+use Rattle.grammar.specs.Writes.{writeOf}
 use Rattle.grammar.proofs.Lengths.{text-fits}
 use Rattle.pens.specs.Pens.{Puts}
 use Rattle.pens.proofs.PenLaws.{put-place, put-page}

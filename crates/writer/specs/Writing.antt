@@ -1,5 +1,6 @@
--- What the sections of the writer promise. The words are those of crate message; here are names for parts of them, and for what a section
--- is handed.
+-- `wrote` stands in the contract of `write`. The rest is what the sections of the writer promise one another: names for parts of the words that
+-- crate message defines (each is an arm of `formWords`, `endingWords`, `locationWords`, … and proved so where it is used), and for what a
+-- section is handed.
 -- Assumes nothing.
 use mathlib.Core.Bool.{true}
 use mathlib.Core.List.{List, [], _∷_, _++_}

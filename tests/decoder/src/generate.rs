@@ -91,16 +91,24 @@ fn blanks(rng: &mut Rng, least: usize) -> String {
     (0..count).map(|_| rng.pick(&[" ", " ", "\r", "\n", "\r\n"])).collect()
 }
 
-/// The words as a text, in canonical blanks or in any.
+/// The words as a text: with any blanks, laid out canonically, or parted by single spaces.
 fn render(rng: &mut Rng, words: &[String]) -> Vec<u8> {
-    let free = rng.one_in(3);
+    let layout = rng.below(3);
+    let free = layout == 0;
+    let corrected = words.get(3).is_some_and(|word| word.len() == 3 && word.starts_with("CC"));
+    let heading = if corrected { 4 } else { 3 };
     let mut text = if free { blanks(rng, 0) } else { String::new() };
     for (i, word) in words.iter().enumerate() {
         let least = usize::from(i > 0 && word != "=");
-        text += &if free { blanks(rng, least) } else { " ".repeat(least) };
+        let line_end = layout == 1 && (i == heading || i == heading + 6);
+        text += &match (free, line_end) {
+            (true, _) => blanks(rng, least),
+            (_, true) => "\r\n".to_string(),
+            _ => " ".repeat(least),
+        };
         text += word;
     }
-    if free || rng.one_in(10) {
+    if free || (layout == 2 && rng.one_in(10)) {
         text += &blanks(rng, 0);
     }
     text.into_bytes()

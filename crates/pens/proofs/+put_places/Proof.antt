@@ -1,11 +1,8 @@
 -- `put_places` meets its contract: the last place goes behind those of n / base, as in the definition of the places. The measure is k.
 -- Assumes nothing.
-use mathlib.Core.Path.{_≡_, refl, sym}
-use Prim.Native.Nat.{ℕ, suc, _+_, _-_, _/_, _%_, _<_, _≤_}
+use Prim.Native.Nat.{ℕ, _<_}
 use native.Mathlib.Nat.{pos-of-ne-zero, mod-lt}
 use native.Mathlib.Omega.{arith}
-use Rattle.lists.specs.Base.{places}
-use Rattle.pens.specs.Pens.{Puts, shifted}
 use Rattle.pens.proofs.PenLaws.{no-place, place-more}
 use borrow.Author.Needs.{needs}
 use borrow.Fn.Kinds.{In}
@@ -28,7 +25,6 @@ abbrev put-places-below : ℕ → In 1 put-places-kinds.ps
 put-places-below t =
     and 1 put-places-kinds.ps (falls 1 put-places-kinds.ps _<_ μ-put-places t) put-places.Pre
 
--- src/lib.rt:47:9
 put-places-returns : (t : ℕ) → put-places-lts.Need-returns (
   put-places-below t,
   put-places.Post,
@@ -37,7 +33,6 @@ put-places-returns : (t : ℕ) → put-places-lts.Need-returns (
 ) (put-places-at t) put-places.Post
 put-places-returns t c = no-place _ _ _ _ (c .if1 .taken)
 
--- src/lib.rt:49:36
 put-places-div-put-places : (t : ℕ) → put-places-lts.Need-div-put-places (
   put-places-below t,
   put-places.Post,
@@ -46,7 +41,6 @@ put-places-div-put-places : (t : ℕ) → put-places-lts.Need-div-put-places (
 ) (put-places-at t) put-places.Post
 put-places-div-put-places t c = c .before .before .before .pre .1 .0
 
--- src/lib.rt:49:46
 put-places-sub-put-places : (t : ℕ) → put-places-lts.Need-sub-put-places (
   put-places-below t,
   put-places.Post,
@@ -55,7 +49,6 @@ put-places-sub-put-places : (t : ℕ) → put-places-lts.Need-sub-put-places (
 ) (put-places-at t) put-places.Post
 put-places-sub-put-places t c = pos-of-ne-zero (c .before .if1 .left)
 
--- src/lib.rt:49:9
 put-places-put-places-requires : (t : ℕ) → put-places-lts.Need-put-places-requires (
   put-places-below t,
   put-places.Post,
@@ -64,7 +57,6 @@ put-places-put-places-requires : (t : ℕ) → put-places-lts.Need-put-places-re
 ) (put-places-at t) put-places.Post
 put-places-put-places-requires t c κs = (omega (arith, pos-of-ne-zero (c .before .if1 .left), c .before .before .before .pre .0), c .before .before .before .pre .1)
 
--- src/lib.rt:50:21
 put-places-rem-put : (t : ℕ) → put-places-lts.Need-rem-put (
   put-places-below t,
   put-places.Post,
@@ -73,7 +65,6 @@ put-places-rem-put : (t : ℕ) → put-places-lts.Need-rem-put (
 ) (put-places-at t) put-places.Post
 put-places-rem-put t c = c .before .before .before .before .before .before .before .pre .1 .0
 
--- src/lib.rt:50:20
 put-places-cast-put : (t : ℕ) → put-places-lts.Need-cast-put (
   put-places-below t,
   put-places.Post,
@@ -82,7 +73,6 @@ put-places-cast-put : (t : ℕ) → put-places-lts.Need-cast-put (
 ) (put-places-at t) put-places.Post
 put-places-cast-put t c = omega (arith, mod-lt (c .before .before .before .before .before .before .before .args .n) (c .before .before .before .before .before .before .before .pre .1 .0), c .before .before .before .before .before .before .before .pre .1 .1)
 
--- src/lib.rt:50:20
 put-places-add-put : (t : ℕ) → put-places-lts.Need-add-put (
   put-places-below t,
   put-places.Post,
@@ -91,7 +81,6 @@ put-places-add-put : (t : ℕ) → put-places-lts.Need-add-put (
 ) (put-places-at t) put-places.Post
 put-places-add-put t c = omega (arith, mod-lt (c .before .before .before .before .before .before .before .args .n) (c .before .before .before .before .before .before .before .pre .1 .0), c .before .before .before .before .before .before .before .pre .1 .1)
 
--- src/lib.rt:50:5
 put-places-put-requires : (t : ℕ) → put-places-lts.Need-put-requires (
   put-places-below t,
   put-places.Post,
@@ -100,7 +89,6 @@ put-places-put-requires : (t : ℕ) → put-places-lts.Need-put-requires (
 ) (put-places-at t) put-places.Post
 put-places-put-requires t c κs = tt
 
--- src/lib.rt:42:1
 put-places-same-length : (t : ℕ) → put-places-lts.Need-same-length (
   put-places-below t,
   put-places.Post,
@@ -109,7 +97,6 @@ put-places-same-length : (t : ℕ) → put-places-lts.Need-same-length (
 ) (put-places-at t) put-places.Post
 put-places-same-length t c = search needs
 
--- src/lib.rt:42:1
 put-places-returns-2 : (t : ℕ) → put-places-lts.Need-returns-2 (
   put-places-below t,
   put-places.Post,

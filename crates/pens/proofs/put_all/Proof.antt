@@ -1,16 +1,12 @@
 -- `put_all` meets its contract: behind the bytes that were put so far comes the next. Assumes nothing.
 use mathlib.Core.Path.{_≡_, refl}
 use Prim.Native.Nat.{_-_, _≤_, zero-le}
-use native.Mathlib.Omega.{arith}
 use lib.ListN.{length, take}
 use borrow.Author.Needs.{needs}
 use Rattle.pens.specs.Pens.{Puts}
 use Rattle.pens.proofs.PenLaws.{nothing, one-more, all-put}
 use Rattle.pens.proofs.put_all.Statement.{statement}
 use Rattle.pens.proofs.put_all.Tie as tie
-use Rattle.pens.proofs.put_all.Reads as reads
-use Rattle.pens.proofs.put_all.Lts as lts
-use Rattle.pens.proofs.put.Reads as put-reads
 
 abbrev Inv-loop : tie.InvT-loop
 Inv-loop out₀ at text i₀ next₀ out i next = Puts (take i text) at out₀ next out × (i ≤ length text) × (length out ≡ length out₀)
@@ -18,27 +14,21 @@ Inv-loop out₀ at text i₀ next₀ out i next = Puts (take i text) at out₀ n
 abbrev μ-loop : tie.MeasureT-loop
 μ-loop out₀ at text i₀ next₀ out i next = length text - i
 
--- src/lib.rt:26:5
 loop-holds : tie.Need-loop-holds Inv-loop μ-loop
 loop-holds c = (nothing, zero-le, refl)
 
--- src/lib.rt:27:31
 shared-slice-read-put : tie.Need-shared-slice-read-put Inv-loop μ-loop
 shared-slice-read-put c = search needs
 
--- src/lib.rt:27:9
 put-requires : tie.Need-put-requires Inv-loop μ-loop
 put-requires c κs = search needs
 
--- src/lib.rt:28:9
 add-i : tie.Need-add-i Inv-loop μ-loop
 add-i c = search needs
 
--- src/lib.rt:26:5
 loop-less : tie.Need-loop-less Inv-loop μ-loop
 loop-less c = search needs
 
--- src/lib.rt:26:5
 loop-again : tie.Need-loop-again Inv-loop μ-loop
 loop-again c = (
   one-more _ _ (c .before .before .before .before .before .loop-test .taken) (c .before .before .before .before .before .before .loop .inv .0) (c .before .before .put .ensures),
@@ -46,11 +36,9 @@ loop-again c = (
   search needs,
 )
 
--- src/lib.rt:21:1
 same-length : tie.Need-same-length Inv-loop μ-loop
 same-length c = search needs
 
--- src/lib.rt:21:1
 returns : tie.Need-returns Inv-loop μ-loop
 returns c = all-put _ _ (c .loop-test .left) (c .before .loop .inv .0)
 

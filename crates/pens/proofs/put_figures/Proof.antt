@@ -2,19 +2,13 @@
 use borrow.Author.Needs.{needs}
 use Rattle.pens.proofs.put_figures.Statement.{statement}
 use Rattle.pens.proofs.put_figures.Tie as tie
-use Rattle.pens.proofs.put_figures.Reads as reads
-use Rattle.pens.proofs.put_figures.Lts as lts
-use Rattle.pens.proofs.put_places.Reads as put-places-reads
 
--- src/lib.rt:64:5
 put-places-requires : tie.Need-put-places-requires
 put-places-requires c κs = search needs
 
--- src/lib.rt:61:1
 same-length : tie.Need-same-length
 same-length c = search needs
 
--- src/lib.rt:61:1
 returns : tie.Need-returns
 returns c = c .before .before .put-places .ensures
 

@@ -1,7 +1,7 @@
 -- `print_text` prints no more than the buffer holds: the writer's count lies within it. Assumes nothing.
 use borrow.Author.Needs.{needs}
 use Rattle.io.proofs.Counting.{front}
-use Rattle.sigmet.proofs.Within.{within}
+use Rattle.writer.proofs.Within.{within}
 use Rattle.sigmet.proofs.print_text.Statement.{statement}
 use Rattle.sigmet.proofs.print_text.Tie as tie
 

@@ -4,53 +4,37 @@ use Rattle.pens.proofs.PenLaws.{then, line-text}
 use borrow.Author.Needs.{needs}
 use Rattle.writer.proofs.put_text.Statement.{statement}
 use Rattle.writer.proofs.put_text.Tie as tie
-use Rattle.writer.proofs.put_text.Reads as reads
-use Rattle.writer.proofs.put_text.Lts as lts
-use Rattle.pens.proofs.put_all.Reads as put-all-reads
-use Rattle.writer.proofs.opening.put_heading.Reads as put-heading-reads
-use Rattle.writer.proofs.opening.put_line.Reads as put-line-reads
-use Rattle.writer.proofs.put_body.Reads as put-body-reads
 
--- src/lib.rt:54:9
 put-heading-requires : tie.Need-put-heading-requires
 put-heading-requires c κs = search needs
 
--- src/lib.rt:55:29
 slice-aggregate-put-all : tie.Need-slice-aggregate-put-all
 slice-aggregate-put-all c = search needs
 
--- src/lib.rt:55:9
 put-all-requires : tie.Need-put-all-requires
 put-all-requires c κs = search needs
 
--- src/lib.rt:56:9
 put-line-requires : tie.Need-put-line-requires
 put-line-requires c κs = search needs
 
--- src/lib.rt:57:29
 slice-aggregate-put-all-2 : tie.Need-slice-aggregate-put-all-2
 slice-aggregate-put-all-2 c = search needs
 
--- src/lib.rt:57:9
 put-all-requires-2 : tie.Need-put-all-requires-2
 put-all-requires-2 c κs = search needs
 
--- src/lib.rt:58:9
 put-body-requires : tie.Need-put-body-requires
 put-body-requires c κs = search needs
 
--- src/lib.rt:59:5
 slice-aggregate-put-all-3 : tie.Need-slice-aggregate-put-all-3
 slice-aggregate-put-all-3 c = search needs
 
 put-all-requires-3 : tie.Need-put-all-requires-3
 put-all-requires-3 c κs = search needs
 
--- src/lib.rt:48:1
 same-length : tie.Need-same-length
 same-length c = search needs
 
--- src/lib.rt:48:1
 returns : tie.Need-returns
 unfolding textOf
 returns c =

@@ -1,7 +1,7 @@
 -- `writing::is_written` compares and prints no more than the buffer holds: the writer's count lies within it. Assumes nothing.
 use borrow.Author.Needs.{needs}
 use Rattle.io.proofs.Counting.{front}
-use Rattle.examples.proofs.Within.{within}
+use Rattle.writer.proofs.Within.{within}
 use Rattle.examples.proofs.writing.is_written.Statement.{statement}
 use Rattle.examples.proofs.writing.is_written.Tie as tie
 

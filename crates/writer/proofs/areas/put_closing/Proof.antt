@@ -6,71 +6,52 @@ use Rattle.pens.proofs.PenLaws.{a-space}
 use borrow.Author.Needs.{needs}
 use Rattle.writer.proofs.areas.put_closing.Statement.{statement}
 use Rattle.writer.proofs.areas.put_closing.Tie as tie
-use Rattle.writer.proofs.areas.put_closing.Reads as reads
-use Rattle.writer.proofs.areas.put_closing.Lts as lts
-use Rattle.pens.proofs.put.Reads as put-reads
-use Rattle.pens.proofs.put_word.Reads as put-word-reads
 
--- src/areas.rt:29:32
 slice-aggregate-put-word : tie.Need-slice-aggregate-put-word
 slice-aggregate-put-word c = search needs
 
--- src/areas.rt:29:14
 put-word-requires : tie.Need-put-word-requires
 put-word-requires c κs = search needs
 
--- src/areas.rt:30:32
 slice-aggregate-put-word-2 : tie.Need-slice-aggregate-put-word-2
 slice-aggregate-put-word-2 c = search needs
 
--- src/areas.rt:30:14
 put-word-requires-2 : tie.Need-put-word-requires-2
 put-word-requires-2 c κs = search needs
 
--- src/areas.rt:31:32
 slice-aggregate-put-word-3 : tie.Need-slice-aggregate-put-word-3
 slice-aggregate-put-word-3 c = search needs
 
--- src/areas.rt:31:14
 put-word-requires-3 : tie.Need-put-word-requires-3
 put-word-requires-3 c κs = search needs
 
--- src/areas.rt:32:14
 put-requires : tie.Need-put-requires
 put-requires c κs = search needs
 
--- src/areas.rt:25:1
 same-length : tie.Need-same-length
 same-length c = search needs
 
--- src/areas.rt:25:1
 returns : tie.Need-returns
 unfolding closingWords
 returns c = rw (c .before .before .before .before .before .match .keys1) (c .before .before .put-word .ensures)
 
--- src/areas.rt:25:1
 same-length-2 : tie.Need-same-length-2
 same-length-2 c = search needs
 
--- src/areas.rt:25:1
 returns-2 : tie.Need-returns-2
 unfolding closingWords
 returns-2 c = rw (c .before .before .before .before .before .match .keys2) (c .before .before .put-word2 .ensures)
 
--- src/areas.rt:25:1
 same-length-3 : tie.Need-same-length-3
 same-length-3 c = search needs
 
--- src/areas.rt:25:1
 returns-3 : tie.Need-returns-3
 unfolding closingWords
 returns-3 c = rw (c .before .before .before .before .before .match .keys3) (c .before .before .put-word3 .ensures)
 
--- src/areas.rt:25:1
 same-length-4 : tie.Need-same-length-4
 same-length-4 c = search needs
 
--- src/areas.rt:25:1
 returns-4 : tie.Need-returns-4
 unfolding closingWords
 returns-4 c =

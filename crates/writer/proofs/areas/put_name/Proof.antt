@@ -7,29 +7,21 @@ use Rattle.writer.proofs.SectionLaws.{name-put}
 use borrow.Author.Needs.{needs}
 use Rattle.writer.proofs.areas.put_name.Statement.{statement}
 use Rattle.writer.proofs.areas.put_name.Tie as tie
-use Rattle.writer.proofs.areas.put_name.Reads as reads
-use Rattle.writer.proofs.areas.put_name.Lts as lts
-use Rattle.pens.proofs.put_word.Reads as put-word-reads
 
--- src/areas.rt:22:23
 array-share-prefix-text : tie.Need-array-share-prefix-text
 array-share-prefix-text c = let long : length (c .before .before .before .args .n .bytes) ≡ 50 = search needs in omega (arith, c .before .before .before .pre)
 
--- src/areas.rt:22:23
 slice-aggregate-put-word : tie.Need-slice-aggregate-put-word
 slice-aggregate-put-word c =
     let long : length
     (c .before .before .before .before .args .n .bytes) ≡ 50 = search needs in sym (length-take-le _ _ (omega (arith, c .before .before .before .before .pre)))
 
--- src/areas.rt:22:5
 put-word-requires : tie.Need-put-word-requires
 put-word-requires c κs = search needs
 
--- src/areas.rt:16:1
 same-length : tie.Need-same-length
 same-length c = search needs
 
--- src/areas.rt:16:1
 returns : tie.Need-returns
 returns c = name-put (c .before .before .put-word .ensures)
 

@@ -6,10 +6,6 @@ use Rattle.pens.proofs.PenLaws.{a-space}
 use borrow.Author.Needs.{needs}
 use Rattle.writer.proofs.endings.put_compass.Statement.{statement}
 use Rattle.writer.proofs.endings.put_compass.Tie as tie
-use Rattle.writer.proofs.endings.put_compass.Reads as reads
-use Rattle.writer.proofs.endings.put_compass.Lts as lts
-use Rattle.pens.proofs.put.Reads as put-reads
-use Rattle.pens.proofs.put_word.Reads as put-word-reads
 
 -- none of the numbers 0 to 15, one by one
 past-fifteen : (c : tie.At-match-rest) → 16 ≤ c .before .before .args .direction
@@ -47,287 +43,220 @@ past-fifteen c =
     (c .match .rest .0 .1))
     (c .match .rest .1))
 
--- src/endings.rt:28:32
 slice-aggregate-put-word : tie.Need-slice-aggregate-put-word
 slice-aggregate-put-word c = search needs
 
--- src/endings.rt:28:14
 put-word-requires : tie.Need-put-word-requires
 put-word-requires c κs = search needs
 
--- src/endings.rt:29:32
 slice-aggregate-put-word-2 : tie.Need-slice-aggregate-put-word-2
 slice-aggregate-put-word-2 c = search needs
 
--- src/endings.rt:29:14
 put-word-requires-2 : tie.Need-put-word-requires-2
 put-word-requires-2 c κs = search needs
 
--- src/endings.rt:30:32
 slice-aggregate-put-word-3 : tie.Need-slice-aggregate-put-word-3
 slice-aggregate-put-word-3 c = search needs
 
--- src/endings.rt:30:14
 put-word-requires-3 : tie.Need-put-word-requires-3
 put-word-requires-3 c κs = search needs
 
--- src/endings.rt:31:32
 slice-aggregate-put-word-4 : tie.Need-slice-aggregate-put-word-4
 slice-aggregate-put-word-4 c = search needs
 
--- src/endings.rt:31:14
 put-word-requires-4 : tie.Need-put-word-requires-4
 put-word-requires-4 c κs = search needs
 
--- src/endings.rt:32:32
 slice-aggregate-put-word-5 : tie.Need-slice-aggregate-put-word-5
 slice-aggregate-put-word-5 c = search needs
 
--- src/endings.rt:32:14
 put-word-requires-5 : tie.Need-put-word-requires-5
 put-word-requires-5 c κs = search needs
 
--- src/endings.rt:33:32
 slice-aggregate-put-word-6 : tie.Need-slice-aggregate-put-word-6
 slice-aggregate-put-word-6 c = search needs
 
--- src/endings.rt:33:14
 put-word-requires-6 : tie.Need-put-word-requires-6
 put-word-requires-6 c κs = search needs
 
--- src/endings.rt:34:32
 slice-aggregate-put-word-7 : tie.Need-slice-aggregate-put-word-7
 slice-aggregate-put-word-7 c = search needs
 
--- src/endings.rt:34:14
 put-word-requires-7 : tie.Need-put-word-requires-7
 put-word-requires-7 c κs = search needs
 
--- src/endings.rt:35:32
 slice-aggregate-put-word-8 : tie.Need-slice-aggregate-put-word-8
 slice-aggregate-put-word-8 c = search needs
 
--- src/endings.rt:35:14
 put-word-requires-8 : tie.Need-put-word-requires-8
 put-word-requires-8 c κs = search needs
 
--- src/endings.rt:36:32
 slice-aggregate-put-word-9 : tie.Need-slice-aggregate-put-word-9
 slice-aggregate-put-word-9 c = search needs
 
--- src/endings.rt:36:14
 put-word-requires-9 : tie.Need-put-word-requires-9
 put-word-requires-9 c κs = search needs
 
--- src/endings.rt:37:32
 slice-aggregate-put-word-10 : tie.Need-slice-aggregate-put-word-10
 slice-aggregate-put-word-10 c = search needs
 
--- src/endings.rt:37:14
 put-word-requires-10 : tie.Need-put-word-requires-10
 put-word-requires-10 c κs = search needs
 
--- src/endings.rt:38:33
 slice-aggregate-put-word-11 : tie.Need-slice-aggregate-put-word-11
 slice-aggregate-put-word-11 c = search needs
 
--- src/endings.rt:38:15
 put-word-requires-11 : tie.Need-put-word-requires-11
 put-word-requires-11 c κs = search needs
 
--- src/endings.rt:39:33
 slice-aggregate-put-word-12 : tie.Need-slice-aggregate-put-word-12
 slice-aggregate-put-word-12 c = search needs
 
--- src/endings.rt:39:15
 put-word-requires-12 : tie.Need-put-word-requires-12
 put-word-requires-12 c κs = search needs
 
--- src/endings.rt:40:33
 slice-aggregate-put-word-13 : tie.Need-slice-aggregate-put-word-13
 slice-aggregate-put-word-13 c = search needs
 
--- src/endings.rt:40:15
 put-word-requires-13 : tie.Need-put-word-requires-13
 put-word-requires-13 c κs = search needs
 
--- src/endings.rt:41:33
 slice-aggregate-put-word-14 : tie.Need-slice-aggregate-put-word-14
 slice-aggregate-put-word-14 c = search needs
 
--- src/endings.rt:41:15
 put-word-requires-14 : tie.Need-put-word-requires-14
 put-word-requires-14 c κs = search needs
 
--- src/endings.rt:42:33
 slice-aggregate-put-word-15 : tie.Need-slice-aggregate-put-word-15
 slice-aggregate-put-word-15 c = search needs
 
--- src/endings.rt:42:15
 put-word-requires-15 : tie.Need-put-word-requires-15
 put-word-requires-15 c κs = search needs
 
--- src/endings.rt:43:33
 slice-aggregate-put-word-16 : tie.Need-slice-aggregate-put-word-16
 slice-aggregate-put-word-16 c = search needs
 
--- src/endings.rt:43:15
 put-word-requires-16 : tie.Need-put-word-requires-16
 put-word-requires-16 c κs = search needs
 
--- src/endings.rt:44:21
 put-requires : tie.Need-put-requires
 put-requires c κs = search needs
 
--- src/endings.rt:24:1
 same-length : tie.Need-same-length
 same-length c = search needs
 
--- src/endings.rt:24:1
 returns : tie.Need-returns
 unfolding compassWords
 returns c = rw (c .before .before .before .before .before .match .keys1) (c .before .before .put-word .ensures)
 
--- src/endings.rt:24:1
 same-length-2 : tie.Need-same-length-2
 same-length-2 c = search needs
 
--- src/endings.rt:24:1
 returns-2 : tie.Need-returns-2
 unfolding compassWords
 returns-2 c = rw (c .before .before .before .before .before .match .keys2) (c .before .before .put-word2 .ensures)
 
--- src/endings.rt:24:1
 same-length-3 : tie.Need-same-length-3
 same-length-3 c = search needs
 
--- src/endings.rt:24:1
 returns-3 : tie.Need-returns-3
 unfolding compassWords
 returns-3 c = rw (c .before .before .before .before .before .match .keys3) (c .before .before .put-word3 .ensures)
 
--- src/endings.rt:24:1
 same-length-4 : tie.Need-same-length-4
 same-length-4 c = search needs
 
--- src/endings.rt:24:1
 returns-4 : tie.Need-returns-4
 unfolding compassWords
 returns-4 c = rw (c .before .before .before .before .before .match .keys4) (c .before .before .put-word4 .ensures)
 
--- src/endings.rt:24:1
 same-length-5 : tie.Need-same-length-5
 same-length-5 c = search needs
 
--- src/endings.rt:24:1
 returns-5 : tie.Need-returns-5
 unfolding compassWords
 returns-5 c = rw (c .before .before .before .before .before .match .keys5) (c .before .before .put-word5 .ensures)
 
--- src/endings.rt:24:1
 same-length-6 : tie.Need-same-length-6
 same-length-6 c = search needs
 
--- src/endings.rt:24:1
 returns-6 : tie.Need-returns-6
 unfolding compassWords
 returns-6 c = rw (c .before .before .before .before .before .match .keys6) (c .before .before .put-word6 .ensures)
 
--- src/endings.rt:24:1
 same-length-7 : tie.Need-same-length-7
 same-length-7 c = search needs
 
--- src/endings.rt:24:1
 returns-7 : tie.Need-returns-7
 unfolding compassWords
 returns-7 c = rw (c .before .before .before .before .before .match .keys7) (c .before .before .put-word7 .ensures)
 
--- src/endings.rt:24:1
 same-length-8 : tie.Need-same-length-8
 same-length-8 c = search needs
 
--- src/endings.rt:24:1
 returns-8 : tie.Need-returns-8
 unfolding compassWords
 returns-8 c = rw (c .before .before .before .before .before .match .keys8) (c .before .before .put-word8 .ensures)
 
--- src/endings.rt:24:1
 same-length-9 : tie.Need-same-length-9
 same-length-9 c = search needs
 
--- src/endings.rt:24:1
 returns-9 : tie.Need-returns-9
 unfolding compassWords
 returns-9 c = rw (c .before .before .before .before .before .match .keys9) (c .before .before .put-word9 .ensures)
 
--- src/endings.rt:24:1
 same-length-10 : tie.Need-same-length-10
 same-length-10 c = search needs
 
--- src/endings.rt:24:1
 returns-10 : tie.Need-returns-10
 unfolding compassWords
 returns-10 c = rw (c .before .before .before .before .before .match .keys10) (c .before .before .put-word10 .ensures)
 
--- src/endings.rt:24:1
 same-length-11 : tie.Need-same-length-11
 same-length-11 c = search needs
 
--- src/endings.rt:24:1
 returns-11 : tie.Need-returns-11
 unfolding compassWords
 returns-11 c = rw (c .before .before .before .before .before .match .keys11) (c .before .before .put-word11 .ensures)
 
--- src/endings.rt:24:1
 same-length-12 : tie.Need-same-length-12
 same-length-12 c = search needs
 
--- src/endings.rt:24:1
 returns-12 : tie.Need-returns-12
 unfolding compassWords
 returns-12 c = rw (c .before .before .before .before .before .match .keys12) (c .before .before .put-word12 .ensures)
 
--- src/endings.rt:24:1
 same-length-13 : tie.Need-same-length-13
 same-length-13 c = search needs
 
--- src/endings.rt:24:1
 returns-13 : tie.Need-returns-13
 unfolding compassWords
 returns-13 c = rw (c .before .before .before .before .before .match .keys13) (c .before .before .put-word13 .ensures)
 
--- src/endings.rt:24:1
 same-length-14 : tie.Need-same-length-14
 same-length-14 c = search needs
 
--- src/endings.rt:24:1
 returns-14 : tie.Need-returns-14
 unfolding compassWords
 returns-14 c = rw (c .before .before .before .before .before .match .keys14) (c .before .before .put-word14 .ensures)
 
--- src/endings.rt:24:1
 same-length-15 : tie.Need-same-length-15
 same-length-15 c = search needs
 
--- src/endings.rt:24:1
 returns-15 : tie.Need-returns-15
 unfolding compassWords
 returns-15 c = rw (c .before .before .before .before .before .match .keys15) (c .before .before .put-word15 .ensures)
 
--- src/endings.rt:24:1
 same-length-16 : tie.Need-same-length-16
 same-length-16 c = search needs
 
--- src/endings.rt:24:1
 returns-16 : tie.Need-returns-16
 unfolding compassWords
 returns-16 c = rw (c .before .before .before .before .before .match .keys16) (c .before .before .put-word16 .ensures)
 
--- src/endings.rt:24:1
 same-length-17 : tie.Need-same-length-17
 same-length-17 c = search needs
 
--- src/endings.rt:24:1
 returns-17 : tie.Need-returns-17
 unfolding compassWords
 returns-17 c = rw (no-word compassWords (c .before .before .before .before .before .before .args .direction) (past-fifteen (c .before .before .before .before))) (a-space (c .before .before .put .ensures))

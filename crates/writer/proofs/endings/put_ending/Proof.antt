@@ -5,70 +5,51 @@ use Rattle.pens.proofs.PenLaws.{no-words}
 use borrow.Author.Needs.{needs}
 use Rattle.writer.proofs.endings.put_ending.Statement.{statement}
 use Rattle.writer.proofs.endings.put_ending.Tie as tie
-use Rattle.writer.proofs.endings.put_ending.Reads as reads
-use Rattle.writer.proofs.endings.put_ending.Lts as lts
-use Rattle.writer.proofs.endings.put_forecast.Reads as put-forecast-reads
-use Rattle.writer.proofs.endings.put_moving.Reads as put-moving-reads
-use Rattle.writer.proofs.endings.put_stationary.Reads as put-stationary-reads
 
--- src/endings.rt:108:29
 enum-told : tie.Need-enum-told
 enum-told c = search needs
 
--- src/endings.rt:109:24
 enum-known-ending : tie.Need-enum-known-ending
 enum-known-ending c = search needs
 
--- src/endings.rt:109:52
 put-moving-requires : tie.Need-put-moving-requires
 put-moving-requires c κs = search needs
 
--- src/endings.rt:110:28
 enum-known-ending-2 : tie.Need-enum-known-ending-2
 enum-known-ending-2 c = search needs
 
--- src/endings.rt:110:42
 put-stationary-requires : tie.Need-put-stationary-requires
 put-stationary-requires c κs = search needs
 
--- src/endings.rt:111:26
 enum-known-ending-3 : tie.Need-enum-known-ending-3
 enum-known-ending-3 c = search needs
 
--- src/endings.rt:111:40
 put-forecast-requires : tie.Need-put-forecast-requires
 put-forecast-requires c κs =
     forecast-good (c .before .before .before .before .before .args .ending) (c .before .before .before .before .before .args .forecast) _
     (c .before .before .before .before .before .pre) (c .before .before .ending3 .given .1)
 
--- src/endings.rt:103:1
 returns : tie.Need-returns
 unfolding endingWords
 returns c = rw (c .enum-told .given .1) no-words
 
--- src/endings.rt:103:1
 same-length : tie.Need-same-length
 same-length c = search needs
 
--- src/endings.rt:103:1
 returns-2 : tie.Need-returns-2
 unfolding endingWords
 returns-2 c = rw (c .before .before .before .before .before .ending .given .1) (c .before .before .put-moving .ensures)
 
--- src/endings.rt:103:1
 same-length-2 : tie.Need-same-length-2
 same-length-2 c = search needs
 
--- src/endings.rt:103:1
 returns-3 : tie.Need-returns-3
 unfolding endingWords
 returns-3 c = rw (c .before .before .before .before .before .ending2 .given .1) (c .before .before .put-stationary .ensures)
 
--- src/endings.rt:103:1
 same-length-3 : tie.Need-same-length-3
 same-length-3 c = search needs
 
--- src/endings.rt:103:1
 returns-4 : tie.Need-returns-4
 unfolding endingWords
 returns-4 c = rw (c .before .before .before .before .before .ending3 .given .1) (c .before .before .put-forecast .ensures)

@@ -6,71 +6,52 @@ use Rattle.pens.proofs.PenLaws.{a-space}
 use borrow.Author.Needs.{needs}
 use Rattle.writer.proofs.endings.put_intensity.Statement.{statement}
 use Rattle.writer.proofs.endings.put_intensity.Tie as tie
-use Rattle.writer.proofs.endings.put_intensity.Reads as reads
-use Rattle.writer.proofs.endings.put_intensity.Lts as lts
-use Rattle.pens.proofs.put.Reads as put-reads
-use Rattle.pens.proofs.put_word.Reads as put-word-reads
 
--- src/endings.rt:52:32
 slice-aggregate-put-word : tie.Need-slice-aggregate-put-word
 slice-aggregate-put-word c = search needs
 
--- src/endings.rt:52:14
 put-word-requires : tie.Need-put-word-requires
 put-word-requires c κs = search needs
 
--- src/endings.rt:53:32
 slice-aggregate-put-word-2 : tie.Need-slice-aggregate-put-word-2
 slice-aggregate-put-word-2 c = search needs
 
--- src/endings.rt:53:14
 put-word-requires-2 : tie.Need-put-word-requires-2
 put-word-requires-2 c κs = search needs
 
--- src/endings.rt:54:32
 slice-aggregate-put-word-3 : tie.Need-slice-aggregate-put-word-3
 slice-aggregate-put-word-3 c = search needs
 
--- src/endings.rt:54:14
 put-word-requires-3 : tie.Need-put-word-requires-3
 put-word-requires-3 c κs = search needs
 
--- src/endings.rt:55:14
 put-requires : tie.Need-put-requires
 put-requires c κs = search needs
 
--- src/endings.rt:48:1
 same-length : tie.Need-same-length
 same-length c = search needs
 
--- src/endings.rt:48:1
 returns : tie.Need-returns
 unfolding intensityWords
 returns c = rw (c .before .before .before .before .before .match .keys1) (c .before .before .put-word .ensures)
 
--- src/endings.rt:48:1
 same-length-2 : tie.Need-same-length-2
 same-length-2 c = search needs
 
--- src/endings.rt:48:1
 returns-2 : tie.Need-returns-2
 unfolding intensityWords
 returns-2 c = rw (c .before .before .before .before .before .match .keys2) (c .before .before .put-word2 .ensures)
 
--- src/endings.rt:48:1
 same-length-3 : tie.Need-same-length-3
 same-length-3 c = search needs
 
--- src/endings.rt:48:1
 returns-3 : tie.Need-returns-3
 unfolding intensityWords
 returns-3 c = rw (c .before .before .before .before .before .match .keys3) (c .before .before .put-word3 .ensures)
 
--- src/endings.rt:48:1
 same-length-4 : tie.Need-same-length-4
 same-length-4 c = search needs
 
--- src/endings.rt:48:1
 returns-4 : tie.Need-returns-4
 unfolding intensityWords
 returns-4 c =

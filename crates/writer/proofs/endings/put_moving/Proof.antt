@@ -3,38 +3,25 @@ use Rattle.pens.proofs.PenLaws.{and-then}
 use borrow.Author.Needs.{needs}
 use Rattle.writer.proofs.endings.put_moving.Statement.{statement}
 use Rattle.writer.proofs.endings.put_moving.Tie as tie
-use Rattle.writer.proofs.endings.put_moving.Reads as reads
-use Rattle.writer.proofs.endings.put_moving.Lts as lts
-use Rattle.pens.proofs.put_word.Reads as put-word-reads
-use Rattle.writer.proofs.endings.put_compass.Reads as put-compass-reads
-use Rattle.writer.proofs.endings.put_intensity.Reads as put-intensity-reads
-use Rattle.writer.proofs.endings.put_speed.Reads as put-speed-reads
 
--- src/endings.rt:80:31
 slice-aggregate-put-word : tie.Need-slice-aggregate-put-word
 slice-aggregate-put-word c = search needs
 
--- src/endings.rt:80:9
 put-word-requires : tie.Need-put-word-requires
 put-word-requires c κs = search needs
 
--- src/endings.rt:81:9
 put-compass-requires : tie.Need-put-compass-requires
 put-compass-requires c κs = search needs
 
--- src/endings.rt:82:9
 put-speed-requires : tie.Need-put-speed-requires
 put-speed-requires c κs = search needs
 
--- src/endings.rt:83:5
 put-intensity-requires : tie.Need-put-intensity-requires
 put-intensity-requires c κs = search needs
 
--- src/endings.rt:77:1
 same-length : tie.Need-same-length
 same-length c = search needs
 
--- src/endings.rt:77:1
 returns : tie.Need-returns
 returns c =
     and-then (c .before .before .before .before .before .before .before .before .before .before .before .before .before .before .put-word .ensures)

@@ -4,33 +4,22 @@ use Rattle.pens.proofs.PenLaws.{then, a-space, goes-on}
 use borrow.Author.Needs.{needs}
 use Rattle.writer.proofs.endings.put_speed.Statement.{statement}
 use Rattle.writer.proofs.endings.put_speed.Tie as tie
-use Rattle.writer.proofs.endings.put_speed.Reads as reads
-use Rattle.writer.proofs.endings.put_speed.Lts as lts
-use Rattle.pens.proofs.put.Reads as put-reads
-use Rattle.pens.proofs.put_figures.Reads as put-figures-reads
-use Rattle.writer.proofs.endings.put_unit.Reads as put-unit-reads
 
--- src/endings.rt:72:9
 put-requires : tie.Need-put-requires
 put-requires c κs = search needs
 
--- src/endings.rt:73:33
 cast-put-figures : tie.Need-cast-put-figures
 cast-put-figures c = search needs
 
--- src/endings.rt:73:9
 put-figures-requires : tie.Need-put-figures-requires
 put-figures-requires c κs = search needs
 
--- src/endings.rt:74:5
 put-unit-requires : tie.Need-put-unit-requires
 put-unit-requires c κs = search needs
 
--- src/endings.rt:69:1
 same-length : tie.Need-same-length
 same-length c = search needs
 
--- src/endings.rt:69:1
 returns : tie.Need-returns
 unfolding spellSpeed
 returns c =

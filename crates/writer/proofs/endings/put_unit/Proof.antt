@@ -6,45 +6,33 @@ use Rattle.pens.proofs.PenLaws.{nothing}
 use borrow.Author.Needs.{needs}
 use Rattle.writer.proofs.endings.put_unit.Statement.{statement}
 use Rattle.writer.proofs.endings.put_unit.Tie as tie
-use Rattle.writer.proofs.endings.put_unit.Reads as reads
-use Rattle.writer.proofs.endings.put_unit.Lts as lts
-use Rattle.pens.proofs.put_all.Reads as put-all-reads
 
--- src/endings.rt:63:31
 slice-aggregate-put-all : tie.Need-slice-aggregate-put-all
 slice-aggregate-put-all c = search needs
 
--- src/endings.rt:63:14
 put-all-requires : tie.Need-put-all-requires
 put-all-requires c κs = search needs
 
--- src/endings.rt:64:31
 slice-aggregate-put-all-2 : tie.Need-slice-aggregate-put-all-2
 slice-aggregate-put-all-2 c = search needs
 
--- src/endings.rt:64:14
 put-all-requires-2 : tie.Need-put-all-requires-2
 put-all-requires-2 c κs = search needs
 
--- src/endings.rt:59:1
 same-length : tie.Need-same-length
 same-length c = search needs
 
--- src/endings.rt:59:1
 returns : tie.Need-returns
 unfolding unitWords
 returns c = rw (c .before .before .before .before .before .match .keys1) (c .before .before .put-all .ensures)
 
--- src/endings.rt:59:1
 same-length-2 : tie.Need-same-length-2
 same-length-2 c = search needs
 
--- src/endings.rt:59:1
 returns-2 : tie.Need-returns-2
 unfolding unitWords
 returns-2 c = rw (c .before .before .before .before .before .match .keys2) (c .before .before .put-all2 .ensures)
 
--- src/endings.rt:59:1
 returns-3 : tie.Need-returns-3
 unfolding unitWords
 returns-3 c = rw (unnumbered 1 unitWords (c .before .before .args .n) (λ low. omega (arith, c .match .rest .1, c .match .rest .0 .1))) nothing

@@ -5,72 +5,53 @@ use Rattle.pens.proofs.PenLaws.{no-words}
 use borrow.Author.Needs.{needs}
 use Rattle.writer.proofs.forms.put_form.Statement.{statement}
 use Rattle.writer.proofs.forms.put_form.Tie as tie
-use Rattle.writer.proofs.forms.put_form.Reads as reads
-use Rattle.writer.proofs.forms.put_form.Lts as lts
-use Rattle.writer.proofs.forms.put_cancellation.Reads as put-cancellation-reads
-use Rattle.writer.proofs.forms.put_test.Reads as put-test-reads
-use Rattle.writer.proofs.reports.put_report.Reads as put-report-reads
 
--- src/forms.rt:56:25
 enum-told : tie.Need-enum-told
 enum-told c = search needs
 
--- src/forms.rt:57:20
 enum-known-form : tie.Need-enum-known-form
 enum-known-form c = search needs
 
--- src/forms.rt:57:26
 put-test-requires : tie.Need-put-test-requires
 put-test-requires c κs =
     test-number (c .before .before .before .before .before .before .before .before .before .before .args .r) _
     (c .before .before .before .before .before .before .before .before .before .before .pre) (c .before .before .form .given .1)
 
--- src/forms.rt:58:28
 enum-known-form-2 : tie.Need-enum-known-form-2
 enum-known-form-2 c = search needs
 
--- src/forms.rt:58:40
 put-cancellation-requires : tie.Need-put-cancellation-requires
 put-cancellation-requires c κs = search needs
 
--- src/forms.rt:59:38
 enum-told-2 : tie.Need-enum-told-2
 enum-told-2 c = search needs
 
--- src/forms.rt:59:27
 put-report-requires : tie.Need-put-report-requires
 put-report-requires c κs =
     reported (c .before .before .before .before .before .before .before .before .before .args .r)
     (c .before .before .before .before .before .before .before .before .before .pre) (c .before .enum-told2 .given .1)
 
--- src/forms.rt:41:1
 returns : tie.Need-returns
 unfolding formWords
 returns c = rw (c .enum-told .given .1) no-words
 
--- src/forms.rt:41:1
 same-length : tie.Need-same-length
 same-length c = search needs
 
--- src/forms.rt:41:1
 returns-2 : tie.Need-returns-2
 unfolding formWords
 returns-2 c = rw (c .before .before .before .before .before .form .given .1) (c .before .before .put-test .ensures)
 
--- src/forms.rt:41:1
 same-length-2 : tie.Need-same-length-2
 same-length-2 c = search needs
 
--- src/forms.rt:41:1
 returns-3 : tie.Need-returns-3
 unfolding formWords
 returns-3 c = rw (c .before .before .before .before .before .form2 .given .1) (c .before .before .put-cancellation .ensures)
 
--- src/forms.rt:41:1
 same-length-3 : tie.Need-same-length-3
 same-length-3 c = search needs
 
--- src/forms.rt:41:1
 returns-4 : tie.Need-returns-4
 unfolding formWords
 returns-4 c = rw (c .before .before .before .before .enum-told2 .given .1) (c .before .before .put-report .ensures)

@@ -6,57 +6,42 @@ use native.Mathlib.Omega.{arith}
 use borrow.Author.Needs.{needs}
 use Rattle.writer.proofs.forms.put_test.Statement.{statement}
 use Rattle.writer.proofs.forms.put_test.Tie as tie
-use Rattle.writer.proofs.forms.put_test.Reads as reads
-use Rattle.writer.proofs.forms.put_test.Lts as lts
-use Rattle.pens.proofs.put_word.Reads as put-word-reads
 
--- src/forms.rt:25:32
 slice-aggregate-put-word : tie.Need-slice-aggregate-put-word
 slice-aggregate-put-word c = search needs
 
--- src/forms.rt:25:14
 put-word-requires : tie.Need-put-word-requires
 put-word-requires c κs = search needs
 
--- src/forms.rt:26:32
 slice-aggregate-put-word-2 : tie.Need-slice-aggregate-put-word-2
 slice-aggregate-put-word-2 c = search needs
 
--- src/forms.rt:26:14
 put-word-requires-2 : tie.Need-put-word-requires-2
 put-word-requires-2 c κs = search needs
 
--- src/forms.rt:27:32
 slice-aggregate-put-word-3 : tie.Need-slice-aggregate-put-word-3
 slice-aggregate-put-word-3 c = search needs
 
--- src/forms.rt:27:14
 put-word-requires-3 : tie.Need-put-word-requires-3
 put-word-requires-3 c κs = search needs
 
--- src/forms.rt:20:1
 same-length : tie.Need-same-length
 same-length c = search needs
 
--- src/forms.rt:20:1
 returns : tie.Need-returns
 unfolding testTexts
 returns c = rw (c .before .before .before .before .before .match .keys1) (c .before .before .put-word .ensures)
 
--- src/forms.rt:20:1
 same-length-2 : tie.Need-same-length-2
 same-length-2 c = search needs
 
--- src/forms.rt:20:1
 returns-2 : tie.Need-returns-2
 unfolding testTexts spaced
 returns-2 c = rw (c .before .before .before .before .before .match .keys2) (record { says = c .before .before .put-word2 .ensures .says })
 
--- src/forms.rt:20:1
 same-length-3 : tie.Need-same-length-3
 same-length-3 c = search needs
 
--- src/forms.rt:20:1
 returns-3 : tie.Need-returns-3
 unfolding testTexts spaced
 returns-3 c =

@@ -3,24 +3,16 @@ use Rattle.pens.proofs.PenLaws.{goes-on}
 use borrow.Author.Needs.{needs}
 use Rattle.writer.proofs.levelling.put_flight.Statement.{statement}
 use Rattle.writer.proofs.levelling.put_flight.Tie as tie
-use Rattle.writer.proofs.levelling.put_flight.Reads as reads
-use Rattle.writer.proofs.levelling.put_flight.Lts as lts
-use Rattle.pens.proofs.put_figures.Reads as put-figures-reads
-use Rattle.pens.proofs.put_word.Reads as put-word-reads
 
--- src/levelling.rt:26:9
 put-word-requires : tie.Need-put-word-requires
 put-word-requires c κs = search needs
 
--- src/levelling.rt:27:5
 put-figures-requires : tie.Need-put-figures-requires
 put-figures-requires c κs = search needs
 
--- src/levelling.rt:23:1
 same-length : tie.Need-same-length
 same-length c = search needs
 
--- src/levelling.rt:23:1
 returns : tie.Need-returns
 returns c = goes-on (c .before .before .before .before .before .before .put-word .ensures) (c .before .before .put-figures .ensures)
 

@@ -5,182 +5,135 @@ use Rattle.pens.proofs.PenLaws.{no-words}
 use borrow.Author.Needs.{needs}
 use Rattle.writer.proofs.levelling.put_level.Statement.{statement}
 use Rattle.writer.proofs.levelling.put_level.Tie as tie
-use Rattle.writer.proofs.levelling.put_level.Reads as reads
-use Rattle.writer.proofs.levelling.put_level.Lts as lts
-use Rattle.writer.proofs.levelling.put_feet.Reads as put-feet-reads
-use Rattle.writer.proofs.levelling.put_band.Reads as put-band-reads
-use Rattle.writer.proofs.levelling.put_flight.Reads as put-flight-reads
-use Rattle.writer.proofs.levelling.put_measured.Reads as put-measured-reads
 
--- src/levelling.rt:52:27
 enum-told : tie.Need-enum-told
 enum-told c = search needs
 
--- src/levelling.rt:53:23
 enum-known-level : tie.Need-enum-known-level
 enum-known-level c = search needs
 
--- src/levelling.rt:53:49
 slice-aggregate-put-flight : tie.Need-slice-aggregate-put-flight
 slice-aggregate-put-flight c = search needs
 
--- src/levelling.rt:53:29
 put-flight-requires : tie.Need-put-flight-requires
 put-flight-requires c κs = search needs
 
--- src/levelling.rt:54:30
 enum-known-level-2 : tie.Need-enum-known-level-2
 enum-known-level-2 c = search needs
 
--- src/levelling.rt:54:56
 slice-aggregate-put-flight-2 : tie.Need-slice-aggregate-put-flight-2
 slice-aggregate-put-flight-2 c = search needs
 
--- src/levelling.rt:54:36
 put-flight-requires-2 : tie.Need-put-flight-requires-2
 put-flight-requires-2 c κs = search needs
 
--- src/levelling.rt:55:30
 enum-known-level-3 : tie.Need-enum-known-level-3
 enum-known-level-3 c = search needs
 
--- src/levelling.rt:55:58
 slice-aggregate-put-measured : tie.Need-slice-aggregate-put-measured
 slice-aggregate-put-measured c = search needs
 
--- src/levelling.rt:55:73
 slice-aggregate-put-measured-2 : tie.Need-slice-aggregate-put-measured-2
 slice-aggregate-put-measured-2 c = search needs
 
--- src/levelling.rt:55:36
 put-measured-requires : tie.Need-put-measured-requires
 put-measured-requires c κs = search needs
 
--- src/levelling.rt:56:28
 enum-known-level-4 : tie.Need-enum-known-level-4
 enum-known-level-4 c = search needs
 
--- src/levelling.rt:56:34
 put-feet-requires : tie.Need-put-feet-requires
 put-feet-requires c κs = search needs
 
--- src/levelling.rt:57:21
 enum-known-level-5 : tie.Need-enum-known-level-5
 enum-known-level-5 c = search needs
 
--- src/levelling.rt:57:35
 put-band-requires : tie.Need-put-band-requires
 put-band-requires c κs = search needs
 
--- src/levelling.rt:58:26
 enum-known-level-6 : tie.Need-enum-known-level-6
 enum-known-level-6 c = search needs
 
--- src/levelling.rt:58:52
 slice-aggregate-put-flight-3 : tie.Need-slice-aggregate-put-flight-3
 slice-aggregate-put-flight-3 c = search needs
 
--- src/levelling.rt:58:32
 put-flight-requires-3 : tie.Need-put-flight-requires-3
 put-flight-requires-3 c κs = search needs
 
--- src/levelling.rt:59:28
 enum-known-level-7 : tie.Need-enum-known-level-7
 enum-known-level-7 c = search needs
 
--- src/levelling.rt:59:54
 slice-aggregate-put-flight-4 : tie.Need-slice-aggregate-put-flight-4
 slice-aggregate-put-flight-4 c = search needs
 
--- src/levelling.rt:59:34
 put-flight-requires-4 : tie.Need-put-flight-requires-4
 put-flight-requires-4 c κs = search needs
 
--- src/levelling.rt:60:31
 enum-known-level-8 : tie.Need-enum-known-level-8
 enum-known-level-8 c = search needs
 
--- src/levelling.rt:60:57
 slice-aggregate-put-flight-5 : tie.Need-slice-aggregate-put-flight-5
 slice-aggregate-put-flight-5 c = search needs
 
--- src/levelling.rt:60:37
 put-flight-requires-5 : tie.Need-put-flight-requires-5
 put-flight-requires-5 c κs = search needs
 
--- src/levelling.rt:48:1
 returns : tie.Need-returns
 unfolding levelWords spellLevelWord
 returns c = rw (c .enum-told .given .1) no-words
 
--- src/levelling.rt:48:1
 same-length : tie.Need-same-length
 same-length c = search needs
 
--- src/levelling.rt:48:1
 returns-2 : tie.Need-returns-2
 unfolding levelWords spellLevelWord
 returns-2 c = rw (c .before .before .before .before .before .before .level .given .1) (c .before .before .put-flight .ensures)
 
--- src/levelling.rt:48:1
 same-length-2 : tie.Need-same-length-2
 same-length-2 c = search needs
 
--- src/levelling.rt:48:1
 returns-3 : tie.Need-returns-3
 unfolding levelWords spellLevelWord
 returns-3 c = rw (c .before .before .before .before .before .before .level2 .given .1) (c .before .before .put-flight2 .ensures)
 
--- src/levelling.rt:48:1
 same-length-3 : tie.Need-same-length-3
 same-length-3 c = search needs
 
--- src/levelling.rt:48:1
 returns-4 : tie.Need-returns-4
 unfolding levelWords spellLevelWord
 returns-4 c = rw (c .before .before .before .before .before .before .before .level3 .given .1) (c .before .before .put-measured .ensures)
 
--- src/levelling.rt:48:1
 same-length-4 : tie.Need-same-length-4
 same-length-4 c = search needs
 
--- src/levelling.rt:48:1
 returns-5 : tie.Need-returns-5
 unfolding levelWords spellLevelWord
 returns-5 c = rw (c .before .before .before .before .before .level4 .given .1) (c .before .before .put-feet .ensures)
 
--- src/levelling.rt:48:1
 same-length-5 : tie.Need-same-length-5
 same-length-5 c = search needs
 
--- src/levelling.rt:48:1
 returns-6 : tie.Need-returns-6
 unfolding levelWords spellLevelWord
 returns-6 c = rw (c .before .before .before .before .before .level5 .given .1) (c .before .before .put-band .ensures)
 
--- src/levelling.rt:48:1
 same-length-6 : tie.Need-same-length-6
 same-length-6 c = search needs
 
--- src/levelling.rt:48:1
 returns-7 : tie.Need-returns-7
 unfolding levelWords spellLevelWord spaced
 returns-7 c = rw (c .before .before .before .before .before .before .level6 .given .1) (record { says = c .before .before .put-flight3 .ensures .says })
 
--- src/levelling.rt:48:1
 same-length-7 : tie.Need-same-length-7
 same-length-7 c = search needs
 
--- src/levelling.rt:48:1
 returns-8 : tie.Need-returns-8
 unfolding levelWords spellLevelWord spaced
 returns-8 c = rw (c .before .before .before .before .before .before .level7 .given .1) (record { says = c .before .before .put-flight4 .ensures .says })
 
--- src/levelling.rt:48:1
 same-length-8 : tie.Need-same-length-8
 same-length-8 c = search needs
 
--- src/levelling.rt:48:1
 returns-9 : tie.Need-returns-9
 unfolding levelWords spellLevelWord spaced
 returns-9 c = rw (c .before .before .before .before .before .before .level8 .given .1) (record { says = c .before .before .put-flight5 .ensures .says })

@@ -6,20 +6,13 @@ use Rattle.pens.proofs.PenLaws.{and-then}
 use borrow.Author.Needs.{needs}
 use Rattle.writer.proofs.locating.put_bound.Statement.{statement}
 use Rattle.writer.proofs.locating.put_bound.Tie as tie
-use Rattle.writer.proofs.locating.put_bound.Reads as reads
-use Rattle.writer.proofs.locating.put_bound.Lts as lts
-use Rattle.pens.proofs.put_word.Reads as put-word-reads
-use Rattle.writer.proofs.locating.put_side.Reads as put-side-reads
 
--- src/locating.rt:63:9
 put-side-requires : tie.Need-put-side-requires
 put-side-requires c κs = search needs
 
--- src/locating.rt:63:9
 same-length : tie.Need-same-length
 same-length c = search needs
 
--- src/locating.rt:63:9
 returns : tie.Need-returns
 unfolding boundWords spellCoordinate
 returns c =
@@ -27,15 +20,12 @@ returns c =
     (c .before .before .before .before .before .before .before .before .before .pre) (c .before .before .before .before .if1 .taken))
     (c .before .before .put-side .ensures)
 
--- src/locating.rt:65:9
 put-side-requires-2 : tie.Need-put-side-requires-2
 put-side-requires-2 c κs = search needs
 
--- src/locating.rt:67:9
 same-length-2 : tie.Need-same-length-2
 same-length-2 c = search needs
 
--- src/locating.rt:67:9
 returns-2 : tie.Need-returns-2
 unfolding boundWords spellCoordinate
 returns-2 c =
@@ -48,23 +38,18 @@ returns-2 c =
           (c .before .before .before .before .before .before .if1 .left) (c .if2 .taken),
     ) (c .before .before .before .before .put-side2 .ensures)
 
--- src/locating.rt:69:35
 slice-aggregate-put-word : tie.Need-slice-aggregate-put-word
 slice-aggregate-put-word c = search needs
 
--- src/locating.rt:69:9
 put-word-requires : tie.Need-put-word-requires
 put-word-requires c κs = search needs
 
--- src/locating.rt:70:5
 put-side-requires-3 : tie.Need-put-side-requires-3
 put-side-requires-3 c κs = search needs
 
--- src/locating.rt:56:1
 same-length-3 : tie.Need-same-length-3
 same-length-3 c = search needs
 
--- src/locating.rt:56:1
 returns-3 : tie.Need-returns-3
 unfolding boundWords spellCoordinate
 returns-3 c =

@@ -6,32 +6,22 @@ use Rattle.pens.proofs.PenLaws.{then, a-space, goes-on}
 use borrow.Author.Needs.{needs}
 use Rattle.writer.proofs.locating.put_coordinate.Statement.{statement}
 use Rattle.writer.proofs.locating.put_coordinate.Tie as tie
-use Rattle.writer.proofs.locating.put_coordinate.Reads as reads
-use Rattle.writer.proofs.locating.put_coordinate.Lts as lts
-use Rattle.pens.proofs.put.Reads as put-reads
-use Rattle.pens.proofs.put_figures.Reads as put-figures-reads
 
--- src/locating.rt:27:9
 put-requires : tie.Need-put-requires
 put-requires c κs = search needs
 
--- src/locating.rt:28:9
 put-requires-2 : tie.Need-put-requires-2
 put-requires-2 c κs = search needs
 
--- src/locating.rt:29:33
 cast-put-figures : tie.Need-cast-put-figures
 cast-put-figures c = search needs
 
--- src/locating.rt:29:9
 put-figures-requires : tie.Need-put-figures-requires
 put-figures-requires c κs = search needs
 
--- src/locating.rt:31:9
 same-length : tie.Need-same-length
 same-length c = search needs
 
--- src/locating.rt:31:9
 returns : tie.Need-returns
 unfolding spellCoordinate
 returns c =
@@ -39,19 +29,15 @@ returns c =
     (c .before .before .before .before .before .before .before .before .before .before .before .before .before .put .ensures)) (then
     (c .before .before .before .before .before .before .before .before .before .put2 .ensures) (c .before .before .before .before .put-figures .ensures)))
 
--- src/locating.rt:33:25
 cast-put-figures-2 : tie.Need-cast-put-figures-2
 cast-put-figures-2 c = search needs
 
--- src/locating.rt:33:5
 put-figures-requires-2 : tie.Need-put-figures-requires-2
 put-figures-requires-2 c κs = search needs
 
--- src/locating.rt:24:1
 same-length-2 : tie.Need-same-length-2
 same-length-2 c = search needs
 
--- src/locating.rt:24:1
 returns-2 : tie.Need-returns-2
 unfolding spellCoordinate
 returns-2 c =

@@ -5,39 +5,28 @@ use Rattle.pens.proofs.PenLaws.{split-word}
 use borrow.Author.Needs.{needs}
 use Rattle.writer.proofs.locating.put_entire.Statement.{statement}
 use Rattle.writer.proofs.locating.put_entire.Tie as tie
-use Rattle.writer.proofs.locating.put_entire.Reads as reads
-use Rattle.writer.proofs.locating.put_entire.Lts as lts
-use Rattle.pens.proofs.put_word.Reads as put-word-reads
 
--- src/locating.rt:100:32
 slice-aggregate-put-word : tie.Need-slice-aggregate-put-word
 slice-aggregate-put-word c = search needs
 
--- src/locating.rt:100:14
 put-word-requires : tie.Need-put-word-requires
 put-word-requires c κs = search needs
 
--- src/locating.rt:101:32
 slice-aggregate-put-word-2 : tie.Need-slice-aggregate-put-word-2
 slice-aggregate-put-word-2 c = search needs
 
--- src/locating.rt:101:14
 put-word-requires-2 : tie.Need-put-word-requires-2
 put-word-requires-2 c κs = search needs
 
--- src/locating.rt:96:1
 same-length : tie.Need-same-length
 same-length c = search needs
 
--- src/locating.rt:96:1
 returns : tie.Need-returns
 returns c = rw (c .before .before .before .before .before .match .keys1) (split-word (bytes "ENTIRE") (bytes "CTA") (c .before .before .put-word .ensures))
 
--- src/locating.rt:96:1
 same-length-2 : tie.Need-same-length-2
 same-length-2 c = search needs
 
--- src/locating.rt:96:1
 returns-2 : tie.Need-returns-2
 returns-2 c = rw (ne-eqb _ 3 (c .before .before .before .before .before .match .rest .1)) (split-word (bytes "ENTIRE") (bytes "FIR") (c .before .before .put-word2 .ensures))
 

@@ -5,68 +5,49 @@ use Rattle.pens.proofs.PenLaws.{no-words}
 use borrow.Author.Needs.{needs}
 use Rattle.writer.proofs.locating.put_extent.Statement.{statement}
 use Rattle.writer.proofs.locating.put_extent.Tie as tie
-use Rattle.writer.proofs.locating.put_extent.Reads as reads
-use Rattle.writer.proofs.locating.put_extent.Lts as lts
-use Rattle.writer.proofs.locating.put_bound.Reads as put-bound-reads
-use Rattle.writer.proofs.locating.put_entire.Reads as put-entire-reads
-use Rattle.writer.proofs.locating.put_outline.Reads as put-outline-reads
 
--- src/locating.rt:112:30
 enum-told : tie.Need-enum-told
 enum-told c = search needs
 
--- src/locating.rt:113:27
 enum-known-location : tie.Need-enum-known-location
 enum-known-location c = search needs
 
--- src/locating.rt:113:33
 put-bound-requires : tie.Need-put-bound-requires
 put-bound-requires c κs = bounded (c .before .before .before .before .before .before .args .e) _ (c .before .before .before .before .before .before .pre) (c .before .before .location .given .1)
 
--- src/locating.rt:114:27
 enum-known-location-2 : tie.Need-enum-known-location-2
 enum-known-location-2 c = search needs
 
--- src/locating.rt:114:33
 put-outline-requires : tie.Need-put-outline-requires
 put-outline-requires c κs = outlined (c .before .before .before .before .before .before .args .e) _ (c .before .before .before .before .before .before .pre) (c .before .before .location2 .given .1)
 
--- src/locating.rt:115:40
 enum-told-2 : tie.Need-enum-told-2
 enum-told-2 c = search needs
 
--- src/locating.rt:115:29
 put-entire-requires : tie.Need-put-entire-requires
 put-entire-requires c κs = search needs
 
--- src/locating.rt:105:1
 returns : tie.Need-returns
 unfolding extentWords
 returns c = rw (c .enum-told .given .1) no-words
 
--- src/locating.rt:105:1
 same-length : tie.Need-same-length
 same-length c = search needs
 
--- src/locating.rt:105:1
 returns-2 : tie.Need-returns-2
 unfolding extentWords
 returns-2 c = rw (c .before .before .before .before .before .location .given .1) (c .before .before .put-bound .ensures)
 
--- src/locating.rt:105:1
 same-length-2 : tie.Need-same-length-2
 same-length-2 c = search needs
 
--- src/locating.rt:105:1
 returns-3 : tie.Need-returns-3
 unfolding extentWords
 returns-3 c = rw (c .before .before .before .before .before .location2 .given .1) (c .before .before .put-outline .ensures)
 
--- src/locating.rt:105:1
 same-length-3 : tie.Need-same-length-3
 same-length-3 c = search needs
 
--- src/locating.rt:105:1
 returns-4 : tie.Need-returns-4
 unfolding extentWords
 returns-4 c = rw (c .before .before .before .before .enum-told2 .given .1) (c .before .before .put-entire .ensures)

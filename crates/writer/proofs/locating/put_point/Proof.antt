@@ -4,23 +4,16 @@ use Rattle.pens.proofs.PenLaws.{and-then}
 use borrow.Author.Needs.{needs}
 use Rattle.writer.proofs.locating.put_point.Statement.{statement}
 use Rattle.writer.proofs.locating.put_point.Tie as tie
-use Rattle.writer.proofs.locating.put_point.Reads as reads
-use Rattle.writer.proofs.locating.put_point.Lts as lts
-use Rattle.writer.proofs.locating.put_coordinate.Reads as put-coordinate-reads
 
--- src/locating.rt:41:9
 put-coordinate-requires : tie.Need-put-coordinate-requires
 put-coordinate-requires c κs = search needs
 
--- src/locating.rt:42:5
 put-coordinate-requires-2 : tie.Need-put-coordinate-requires-2
 put-coordinate-requires-2 c κs = search needs
 
--- src/locating.rt:36:1
 same-length : tie.Need-same-length
 same-length c = search needs
 
--- src/locating.rt:36:1
 returns : tie.Need-returns
 unfolding spellCoordinate
 returns c = and-then (c .before .before .before .before .before .before .put-coordinate .ensures) (c .before .before .put-coordinate2 .ensures)

@@ -5,7 +5,6 @@ use native.Mathlib.Omega.{arith}
 use lib.ListN.{length}
 use borrow.Author.Needs.{needs}
 use Rattle.lists.specs.Lists.{part}
-use Rattle.lists.specs.Text.{bytes}
 use Rattle.coordinates.specs.Points.{noPoint}
 use Rattle.message.specs.Locations.{dashed}
 use Rattle.pens.specs.Pens.{Words}
@@ -13,10 +12,6 @@ use Rattle.pens.proofs.PenLaws.{no-words}
 use Rattle.writer.proofs.SectionLaws.{point-more, points-joined}
 use Rattle.writer.proofs.locating.put_points.Statement.{statement}
 use Rattle.writer.proofs.locating.put_points.Tie as tie
-use Rattle.writer.proofs.locating.put_points.Reads as reads
-use Rattle.writer.proofs.locating.put_points.Lts as lts
-use Rattle.pens.proofs.put_word.Reads as put-word-reads
-use Rattle.writer.proofs.locating.put_point.Reads as put-point-reads
 
 abbrev Inv-loop : tie.InvT-loop
 Inv-loop out₀ at count points next₀ i₀ t8 out next i =
@@ -25,48 +20,37 @@ Inv-loop out₀ at count points next₀ i₀ t8 out next i =
 abbrev μ-loop : tie.MeasureT-loop
 μ-loop out₀ at count points next₀ i₀ t8 out next i = count - i
 
--- src/locating.rt:78:39
 array-copy-out-put-point : tie.Need-array-copy-out-put-point Inv-loop μ-loop
 array-copy-out-put-point c = search needs
 
--- src/locating.rt:78:9
 put-point-requires : tie.Need-put-point-requires Inv-loop μ-loop
 put-point-requires c κs = tt
 
--- src/locating.rt:80:5
 loop-holds : tie.Need-loop-holds Inv-loop μ-loop
 unfolding dashed
 loop-holds c = (no-words, omega arith, c .before .before .before .before .before .before .pre .0, refl, search needs)
 
--- src/locating.rt:81:36
 slice-aggregate-put-word : tie.Need-slice-aggregate-put-word Inv-loop μ-loop
 slice-aggregate-put-word c = search needs
 
--- src/locating.rt:81:9
 put-word-requires : tie.Need-put-word-requires Inv-loop μ-loop
 put-word-requires c κs = tt
 
--- src/locating.rt:82:37
 mul-put-point : tie.Need-mul-put-point Inv-loop μ-loop
 mul-put-point c = search needs
 
--- src/locating.rt:82:37
 array-copy-out-put-point-2 : tie.Need-array-copy-out-put-point-2 Inv-loop μ-loop
 array-copy-out-put-point-2 c = search needs
 
--- src/locating.rt:82:9
 put-point-requires-2 : tie.Need-put-point-requires-2 Inv-loop μ-loop
 put-point-requires-2 c κs = tt
 
--- src/locating.rt:83:9
 add-i : tie.Need-add-i Inv-loop μ-loop
 add-i c = search needs
 
--- src/locating.rt:80:5
 loop-less : tie.Need-loop-less Inv-loop μ-loop
 loop-less c = search needs
 
--- src/locating.rt:80:5
 loop-again : tie.Need-loop-again Inv-loop μ-loop
 loop-again c =
     let turn = c .before .before .before .before .before .before .before .before .before .before .before in (
@@ -77,11 +61,9 @@ loop-again c =
       turn .loop .inv .4,
     )
 
--- src/locating.rt:74:1
 same-length : tie.Need-same-length Inv-loop μ-loop
 same-length c = search needs
 
--- src/locating.rt:74:1
 returns : tie.Need-returns Inv-loop μ-loop
 returns c =
     let start = c .before .before .before .before .before .before .before .before in

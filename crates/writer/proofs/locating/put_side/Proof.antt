@@ -3,37 +3,25 @@ use Rattle.pens.proofs.PenLaws.{a-space, goes-on, and-then}
 use borrow.Author.Needs.{needs}
 use Rattle.writer.proofs.locating.put_side.Statement.{statement}
 use Rattle.writer.proofs.locating.put_side.Tie as tie
-use Rattle.writer.proofs.locating.put_side.Reads as reads
-use Rattle.writer.proofs.locating.put_side.Lts as lts
-use Rattle.pens.proofs.put.Reads as put-reads
-use Rattle.pens.proofs.put_word.Reads as put-word-reads
-use Rattle.writer.proofs.locating.put_coordinate.Reads as put-coordinate-reads
 
--- src/locating.rt:50:9
 put-requires : tie.Need-put-requires
 put-requires c κs = search needs
 
--- src/locating.rt:51:9
 put-requires-2 : tie.Need-put-requires-2
 put-requires-2 c κs = search needs
 
--- src/locating.rt:52:30
 slice-aggregate-put-word : tie.Need-slice-aggregate-put-word
 slice-aggregate-put-word c = search needs
 
--- src/locating.rt:52:9
 put-word-requires : tie.Need-put-word-requires
 put-word-requires c κs = search needs
 
--- src/locating.rt:53:5
 put-coordinate-requires : tie.Need-put-coordinate-requires
 put-coordinate-requires c κs = search needs
 
--- src/locating.rt:46:1
 same-length : tie.Need-same-length
 same-length c = search needs
 
--- src/locating.rt:46:1
 returns : tie.Need-returns
 returns c =
     and-then (goes-on (a-space

@@ -4,33 +4,22 @@ use Rattle.pens.proofs.PenLaws.{and-then}
 use borrow.Author.Needs.{needs}
 use Rattle.writer.proofs.observing.put_observation.Statement.{statement}
 use Rattle.writer.proofs.observing.put_observation.Tie as tie
-use Rattle.writer.proofs.observing.put_observation.Reads as reads
-use Rattle.writer.proofs.observing.put_observation.Lts as lts
-use Rattle.pens.proofs.put_word.Reads as put-word-reads
-use Rattle.writer.proofs.observing.put_observed.Reads as put-observed-reads
-use Rattle.writer.proofs.observing.put_time.Reads as put-time-reads
 
--- src/observing.rt:35:9
 put-observed-requires : tie.Need-put-observed-requires
 put-observed-requires c κs = search needs
 
--- src/observing.rt:37:34
 slice-aggregate-put-word : tie.Need-slice-aggregate-put-word
 slice-aggregate-put-word c = search needs
 
--- src/observing.rt:37:13
 put-word-requires : tie.Need-put-word-requires
 put-word-requires c κs = search needs
 
--- src/observing.rt:38:9
 put-time-requires : tie.Need-put-time-requires
 put-time-requires c κs = search needs
 
--- src/observing.rt:38:9
 same-length : tie.Need-same-length
 same-length c = search needs
 
--- src/observing.rt:38:9
 returns : tie.Need-returns
 unfolding observationWords
 returns c =
@@ -38,11 +27,9 @@ returns c =
     (c .before .before .before .before .before .before .before .before .before .before .before .before .put-observed .ensures) (and-then
     (c .before .before .before .before .before .before .put-word .ensures) (c .before .before .put-time .ensures)))
 
--- src/observing.rt:31:1
 same-length-2 : tie.Need-same-length-2
 same-length-2 c = search needs
 
--- src/observing.rt:31:1
 returns-2 : tie.Need-returns-2
 unfolding observationWords
 returns-2 c = rw (c .if1 .left) (c .before .before .before .put-observed .ensures)

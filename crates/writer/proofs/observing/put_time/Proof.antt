@@ -4,40 +4,28 @@ use Rattle.pens.proofs.PenLaws.{then, a-space, goes-on}
 use borrow.Author.Needs.{needs}
 use Rattle.writer.proofs.observing.put_time.Statement.{statement}
 use Rattle.writer.proofs.observing.put_time.Tie as tie
-use Rattle.writer.proofs.observing.put_time.Reads as reads
-use Rattle.writer.proofs.observing.put_time.Lts as lts
-use Rattle.pens.proofs.put.Reads as put-reads
-use Rattle.pens.proofs.put_figures.Reads as put-figures-reads
 
--- src/observing.rt:16:9
 put-requires : tie.Need-put-requires
 put-requires c κs = search needs
 
--- src/observing.rt:17:33
 cast-put-figures : tie.Need-cast-put-figures
 cast-put-figures c = search needs
 
--- src/observing.rt:17:9
 put-figures-requires : tie.Need-put-figures-requires
 put-figures-requires c κs = search needs
 
--- src/observing.rt:18:33
 cast-put-figures-2 : tie.Need-cast-put-figures-2
 cast-put-figures-2 c = search needs
 
--- src/observing.rt:18:9
 put-figures-requires-2 : tie.Need-put-figures-requires-2
 put-figures-requires-2 c κs = search needs
 
--- src/observing.rt:19:5
 put-requires-2 : tie.Need-put-requires-2
 put-requires-2 c κs = search needs
 
--- src/observing.rt:13:1
 same-length : tie.Need-same-length
 same-length c = search needs
 
--- src/observing.rt:13:1
 returns : tie.Need-returns
 unfolding spellTime
 returns c =

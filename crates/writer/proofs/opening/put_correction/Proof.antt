@@ -4,32 +4,22 @@ use Rattle.pens.proofs.PenLaws.{no-words, goes-on}
 use borrow.Author.Needs.{needs}
 use Rattle.writer.proofs.opening.put_correction.Statement.{statement}
 use Rattle.writer.proofs.opening.put_correction.Tie as tie
-use Rattle.writer.proofs.opening.put_correction.Reads as reads
-use Rattle.writer.proofs.opening.put_correction.Lts as lts
-use Rattle.pens.proofs.put.Reads as put-reads
-use Rattle.pens.proofs.put_word.Reads as put-word-reads
 
--- src/opening.rt:66:9
 returns : tie.Need-returns
 returns c = rw (c .if1 .taken) no-words
 
--- src/opening.rt:68:34
 slice-aggregate-put-word : tie.Need-slice-aggregate-put-word
 slice-aggregate-put-word c = search needs
 
--- src/opening.rt:68:9
 put-word-requires : tie.Need-put-word-requires
 put-word-requires c κs = search needs
 
--- src/opening.rt:69:5
 put-requires : tie.Need-put-requires
 put-requires c κs = search needs
 
--- src/opening.rt:62:1
 same-length : tie.Need-same-length
 same-length c = search needs
 
--- src/opening.rt:62:1
 returns-2 : tie.Need-returns-2
 returns-2 c =
     rw (ne-eqb _ 0 (c .before .before .before .before .before .before .before .before .before .if1 .left)) (goes-on

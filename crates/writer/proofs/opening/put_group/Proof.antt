@@ -4,39 +4,28 @@ use Rattle.pens.proofs.PenLaws.{then}
 use borrow.Author.Needs.{needs}
 use Rattle.writer.proofs.opening.put_group.Statement.{statement}
 use Rattle.writer.proofs.opening.put_group.Tie as tie
-use Rattle.writer.proofs.opening.put_group.Reads as reads
-use Rattle.writer.proofs.opening.put_group.Lts as lts
-use Rattle.pens.proofs.put_figures.Reads as put-figures-reads
 
--- src/opening.rt:50:34
 cast-put-figures : tie.Need-cast-put-figures
 cast-put-figures c = search needs
 
--- src/opening.rt:50:9
 put-figures-requires : tie.Need-put-figures-requires
 put-figures-requires c κs = search needs
 
--- src/opening.rt:51:33
 cast-put-figures-2 : tie.Need-cast-put-figures-2
 cast-put-figures-2 c = search needs
 
--- src/opening.rt:51:9
 put-figures-requires-2 : tie.Need-put-figures-requires-2
 put-figures-requires-2 c κs = search needs
 
--- src/opening.rt:52:25
 cast-put-figures-3 : tie.Need-cast-put-figures-3
 cast-put-figures-3 c = search needs
 
--- src/opening.rt:52:5
 put-figures-requires-3 : tie.Need-put-figures-requires-3
 put-figures-requires-3 c κs = search needs
 
--- src/opening.rt:47:1
 same-length : tie.Need-same-length
 same-length c = search needs
 
--- src/opening.rt:47:1
 returns : tie.Need-returns
 unfolding spellGroup
 returns c =

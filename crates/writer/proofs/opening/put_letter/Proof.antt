@@ -4,23 +4,16 @@ use Rattle.pens.proofs.PenLaws.{nothing}
 use borrow.Author.Needs.{needs}
 use Rattle.writer.proofs.opening.put_letter.Statement.{statement}
 use Rattle.writer.proofs.opening.put_letter.Tie as tie
-use Rattle.writer.proofs.opening.put_letter.Reads as reads
-use Rattle.writer.proofs.opening.put_letter.Lts as lts
-use Rattle.pens.proofs.put.Reads as put-reads
 
--- src/opening.rt:87:9
 returns : tie.Need-returns
 returns c = rw (c .if1 .taken) nothing
 
--- src/opening.rt:89:5
 put-requires : tie.Need-put-requires
 put-requires c κs = search needs
 
--- src/opening.rt:83:1
 same-length : tie.Need-same-length
 same-length c = search needs
 
--- src/opening.rt:83:1
 returns-2 : tie.Need-returns-2
 returns-2 c = rw (ne-eqb _ 0 (c .before .before .before .before .if1 .left)) (c .before .before .put .ensures)
 

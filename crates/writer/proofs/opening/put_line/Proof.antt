@@ -4,51 +4,34 @@ use Rattle.pens.proofs.PenLaws.{a-line, and-then}
 use borrow.Author.Needs.{needs}
 use Rattle.writer.proofs.opening.put_line.Statement.{statement}
 use Rattle.writer.proofs.opening.put_line.Tie as tie
-use Rattle.writer.proofs.opening.put_line.Reads as reads
-use Rattle.writer.proofs.opening.put_line.Lts as lts
-use Rattle.pens.proofs.put_letters.Reads as put-letters-reads
-use Rattle.pens.proofs.put_word.Reads as put-word-reads
-use Rattle.writer.proofs.opening.put_office.Reads as put-office-reads
-use Rattle.writer.proofs.opening.put_period.Reads as put-period-reads
-use Rattle.writer.proofs.opening.put_sequence.Reads as put-sequence-reads
 
--- src/opening.rt:123:9
 put-letters-requires : tie.Need-put-letters-requires
 put-letters-requires c κs = search needs
 
--- src/opening.rt:124:30
 slice-aggregate-put-word : tie.Need-slice-aggregate-put-word
 slice-aggregate-put-word c = search needs
 
--- src/opening.rt:124:9
 put-word-requires : tie.Need-put-word-requires
 put-word-requires c κs = search needs
 
--- src/opening.rt:125:9
 put-sequence-requires : tie.Need-put-sequence-requires
 put-sequence-requires c κs = search needs
 
--- src/opening.rt:126:30
 slice-aggregate-put-word-2 : tie.Need-slice-aggregate-put-word-2
 slice-aggregate-put-word-2 c = search needs
 
--- src/opening.rt:126:9
 put-word-requires-2 : tie.Need-put-word-requires-2
 put-word-requires-2 c κs = search needs
 
--- src/opening.rt:127:9
 put-period-requires : tie.Need-put-period-requires
 put-period-requires c κs = search needs
 
--- src/opening.rt:128:5
 put-office-requires : tie.Need-put-office-requires
 put-office-requires c κs = search needs
 
--- src/opening.rt:118:1
 same-length : tie.Need-same-length
 same-length c = search needs
 
--- src/opening.rt:118:1
 returns : tie.Need-returns
 unfolding lineWords
 returns c =

@@ -3,24 +3,16 @@ use Rattle.pens.proofs.PenLaws.{goes-on}
 use borrow.Author.Needs.{needs}
 use Rattle.writer.proofs.opening.put_office.Statement.{statement}
 use Rattle.writer.proofs.opening.put_office.Tie as tie
-use Rattle.writer.proofs.opening.put_office.Reads as reads
-use Rattle.writer.proofs.opening.put_office.Lts as lts
-use Rattle.pens.proofs.put.Reads as put-reads
-use Rattle.writer.proofs.opening.put_four.Reads as put-four-reads
 
--- src/opening.rt:114:9
 put-four-requires : tie.Need-put-four-requires
 put-four-requires c κs = search needs
 
--- src/opening.rt:115:5
 put-requires : tie.Need-put-requires
 put-requires c κs = search needs
 
--- src/opening.rt:111:1
 same-length : tie.Need-same-length
 same-length c = search needs
 
--- src/opening.rt:111:1
 returns : tie.Need-returns
 returns c = goes-on (c .before .before .before .before .before .before .put-four .ensures) (c .before .before .put .ensures)
 

@@ -4,32 +4,22 @@ use Rattle.pens.proofs.PenLaws.{then, a-space, goes-on}
 use borrow.Author.Needs.{needs}
 use Rattle.writer.proofs.opening.put_period.Statement.{statement}
 use Rattle.writer.proofs.opening.put_period.Tie as tie
-use Rattle.writer.proofs.opening.put_period.Reads as reads
-use Rattle.writer.proofs.opening.put_period.Lts as lts
-use Rattle.pens.proofs.put.Reads as put-reads
-use Rattle.writer.proofs.opening.put_group.Reads as put-group-reads
 
--- src/opening.rt:105:9
 put-requires : tie.Need-put-requires
 put-requires c κs = search needs
 
--- src/opening.rt:106:9
 put-group-requires : tie.Need-put-group-requires
 put-group-requires c κs = search needs
 
--- src/opening.rt:107:9
 put-requires-2 : tie.Need-put-requires-2
 put-requires-2 c κs = search needs
 
--- src/opening.rt:108:5
 put-group-requires-2 : tie.Need-put-group-requires-2
 put-group-requires-2 c κs = search needs
 
--- src/opening.rt:100:1
 same-length : tie.Need-same-length
 same-length c = search needs
 
--- src/opening.rt:100:1
 returns : tie.Need-returns
 unfolding spellPeriod
 returns c =

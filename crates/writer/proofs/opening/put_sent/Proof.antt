@@ -3,24 +3,16 @@ use Rattle.pens.proofs.PenLaws.{a-space, goes-on}
 use borrow.Author.Needs.{needs}
 use Rattle.writer.proofs.opening.put_sent.Statement.{statement}
 use Rattle.writer.proofs.opening.put_sent.Tie as tie
-use Rattle.writer.proofs.opening.put_sent.Reads as reads
-use Rattle.writer.proofs.opening.put_sent.Lts as lts
-use Rattle.pens.proofs.put.Reads as put-reads
-use Rattle.writer.proofs.opening.put_group.Reads as put-group-reads
 
--- src/opening.rt:58:9
 put-requires : tie.Need-put-requires
 put-requires c κs = search needs
 
--- src/opening.rt:59:5
 put-group-requires : tie.Need-put-group-requires
 put-group-requires c κs = search needs
 
--- src/opening.rt:55:1
 same-length : tie.Need-same-length
 same-length c = search needs
 
--- src/opening.rt:55:1
 returns : tie.Need-returns
 returns c = goes-on (a-space (c .before .before .before .before .before .before .put .ensures)) (c .before .before .put-group .ensures)
 

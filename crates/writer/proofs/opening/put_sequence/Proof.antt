@@ -4,33 +4,22 @@ use Rattle.pens.proofs.PenLaws.{then, a-space, goes-on}
 use borrow.Author.Needs.{needs}
 use Rattle.writer.proofs.opening.put_sequence.Statement.{statement}
 use Rattle.writer.proofs.opening.put_sequence.Tie as tie
-use Rattle.writer.proofs.opening.put_sequence.Reads as reads
-use Rattle.writer.proofs.opening.put_sequence.Lts as lts
-use Rattle.pens.proofs.put.Reads as put-reads
-use Rattle.pens.proofs.put_figures.Reads as put-figures-reads
-use Rattle.writer.proofs.opening.put_letter.Reads as put-letter-reads
 
--- src/opening.rt:95:9
 put-requires : tie.Need-put-requires
 put-requires c κs = search needs
 
--- src/opening.rt:96:9
 put-letter-requires : tie.Need-put-letter-requires
 put-letter-requires c κs = search needs
 
--- src/opening.rt:97:25
 cast-put-figures : tie.Need-cast-put-figures
 cast-put-figures c = search needs
 
--- src/opening.rt:97:5
 put-figures-requires : tie.Need-put-figures-requires
 put-figures-requires c κs = search needs
 
--- src/opening.rt:92:1
 same-length : tie.Need-same-length
 same-length c = search needs
 
--- src/opening.rt:92:1
 returns : tie.Need-returns
 unfolding spellSequence
 returns c =

@@ -9,88 +9,65 @@ use Rattle.writer.proofs.Tables.{ranged, past, other-way}
 use borrow.Author.Needs.{needs}
 use Rattle.writer.proofs.phenomena.put_first.Statement.{statement}
 use Rattle.writer.proofs.phenomena.put_first.Tie as tie
-use Rattle.writer.proofs.phenomena.put_first.Reads as reads
-use Rattle.writer.proofs.phenomena.put_first.Lts as lts
-use Rattle.pens.proofs.put_word.Reads as put-word-reads
 
--- src/phenomena.rt:27:33
 slice-aggregate-put-word : tie.Need-slice-aggregate-put-word
 slice-aggregate-put-word c = search needs
 
--- src/phenomena.rt:27:15
 put-word-requires : tie.Need-put-word-requires
 put-word-requires c κs = search needs
 
--- src/phenomena.rt:21:36
 slice-aggregate-put-word-2 : tie.Need-slice-aggregate-put-word-2
 slice-aggregate-put-word-2 c = search needs
 
--- src/phenomena.rt:21:18
 put-word-requires-2 : tie.Need-put-word-requires-2
 put-word-requires-2 c κs = search needs
 
--- src/phenomena.rt:22:36
 slice-aggregate-put-word-3 : tie.Need-slice-aggregate-put-word-3
 slice-aggregate-put-word-3 c = search needs
 
--- src/phenomena.rt:22:18
 put-word-requires-3 : tie.Need-put-word-requires-3
 put-word-requires-3 c κs = search needs
 
--- src/phenomena.rt:23:36
 slice-aggregate-put-word-4 : tie.Need-slice-aggregate-put-word-4
 slice-aggregate-put-word-4 c = search needs
 
--- src/phenomena.rt:23:18
 put-word-requires-4 : tie.Need-put-word-requires-4
 put-word-requires-4 c κs = search needs
 
--- src/phenomena.rt:24:36
 slice-aggregate-put-word-5 : tie.Need-slice-aggregate-put-word-5
 slice-aggregate-put-word-5 c = search needs
 
--- src/phenomena.rt:24:18
 put-word-requires-5 : tie.Need-put-word-requires-5
 put-word-requires-5 c κs = search needs
 
--- src/phenomena.rt:25:37
 slice-aggregate-put-word-6 : tie.Need-slice-aggregate-put-word-6
 slice-aggregate-put-word-6 c = search needs
 
--- src/phenomena.rt:25:19
 put-word-requires-6 : tie.Need-put-word-requires-6
 put-word-requires-6 c κs = search needs
 
--- src/phenomena.rt:26:38
 slice-aggregate-put-word-7 : tie.Need-slice-aggregate-put-word-7
 slice-aggregate-put-word-7 c = search needs
 
--- src/phenomena.rt:26:20
 put-word-requires-7 : tie.Need-put-word-requires-7
 put-word-requires-7 c κs = search needs
 
--- src/phenomena.rt:28:32
 slice-aggregate-put-word-8 : tie.Need-slice-aggregate-put-word-8
 slice-aggregate-put-word-8 c = search needs
 
--- src/phenomena.rt:28:14
 put-word-requires-8 : tie.Need-put-word-requires-8
 put-word-requires-8 c κs = search needs
 
--- src/phenomena.rt:16:1
 same-length : tie.Need-same-length
 same-length c = search needs
 
--- src/phenomena.rt:16:1
 returns : tie.Need-returns
 unfolding phenomena
 returns c = rw (c .before .before .before .before .before .match .keys1) (c .before .before .put-word .ensures)
 
--- src/phenomena.rt:16:1
 same-length-2 : tie.Need-same-length-2
 same-length-2 c = search needs
 
--- src/phenomena.rt:16:1
 returns-2 : tie.Need-returns-2
 unfolding phenomena same
 returns-2 c =
@@ -98,11 +75,9 @@ returns-2 c =
     (c .before .before .before .before .before .before .before .before .before .args .n) refl (omega arith) (omega arith))
     (c .before .before .put-word2 .ensures)
 
--- src/phenomena.rt:16:1
 same-length-3 : tie.Need-same-length-3
 same-length-3 c = search needs
 
--- src/phenomena.rt:16:1
 returns-3 : tie.Need-returns-3
 unfolding phenomena same
 returns-3 c =
@@ -110,11 +85,9 @@ returns-3 c =
     (c .before .before .before .before .before .before .before .before .before .before .args .n) refl (omega arith) (omega arith))
     (c .before .before .put-word3 .ensures)
 
--- src/phenomena.rt:16:1
 same-length-4 : tie.Need-same-length-4
 same-length-4 c = search needs
 
--- src/phenomena.rt:16:1
 returns-4 : tie.Need-returns-4
 unfolding phenomena same
 returns-4 c =
@@ -122,11 +95,9 @@ returns-4 c =
     (c .before .before .before .before .before .before .before .before .before .before .before .args .n) refl (omega arith) (omega arith))
     (c .before .before .put-word4 .ensures)
 
--- src/phenomena.rt:16:1
 same-length-5 : tie.Need-same-length-5
 same-length-5 c = search needs
 
--- src/phenomena.rt:16:1
 returns-5 : tie.Need-returns-5
 unfolding phenomena same
 returns-5 c =
@@ -134,11 +105,9 @@ returns-5 c =
     (c .before .before .before .before .before .before .before .before .before .before .before .before .args .n) refl (omega arith) (omega arith))
     (c .before .before .put-word5 .ensures)
 
--- src/phenomena.rt:16:1
 same-length-6 : tie.Need-same-length-6
 same-length-6 c = search needs
 
--- src/phenomena.rt:16:1
 returns-6 : tie.Need-returns-6
 unfolding phenomena same
 returns-6 c =
@@ -146,11 +115,9 @@ returns-6 c =
     (c .before .before .before .before .before .before .before .before .before .before .before .before .before .args .n) refl (omega arith) (omega arith))
     (c .before .before .put-word6 .ensures)
 
--- src/phenomena.rt:16:1
 same-length-7 : tie.Need-same-length-7
 same-length-7 c = search needs
 
--- src/phenomena.rt:16:1
 returns-7 : tie.Need-returns-7
 unfolding phenomena same
 returns-7 c =
@@ -158,11 +125,9 @@ returns-7 c =
     (c .before .before .before .before .before .before .before .before .before .before .before .before .before .before .args .n) refl (omega arith) (omega arith))
     (c .before .before .put-word7 .ensures)
 
--- src/phenomena.rt:16:1
 same-length-8 : tie.Need-same-length-8
 same-length-8 c = search needs
 
--- src/phenomena.rt:16:1
 returns-8 : tie.Need-returns-8
 unfolding phenomena same
 returns-8 c =

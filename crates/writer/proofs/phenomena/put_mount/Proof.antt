@@ -4,34 +4,24 @@ use Rattle.pens.proofs.PenLaws.{no-words, and-then}
 use borrow.Author.Needs.{needs}
 use Rattle.writer.proofs.phenomena.put_mount.Statement.{statement}
 use Rattle.writer.proofs.phenomena.put_mount.Tie as tie
-use Rattle.writer.proofs.phenomena.put_mount.Reads as reads
-use Rattle.writer.proofs.phenomena.put_mount.Lts as lts
-use Rattle.pens.proofs.put_word.Reads as put-word-reads
-use Rattle.writer.proofs.areas.put_name.Reads as put-name-reads
 
--- src/phenomena.rt:68:9
 returns : tie.Need-returns
 returns c = rw (no-mount (c .before .before .before .args .n) (c .before .before .before .pre) (c .if1 .taken)) no-words
 
--- src/phenomena.rt:70:34
 slice-aggregate-put-word : tie.Need-slice-aggregate-put-word
 slice-aggregate-put-word c = search needs
 
--- src/phenomena.rt:70:9
 put-word-requires : tie.Need-put-word-requires
 put-word-requires c κs = search needs
 
--- src/phenomena.rt:71:5
 put-name-requires : tie.Need-put-name-requires
 put-name-requires c κs =
     mount-fits (c .before .before .before .before .before .before .before .before .before .args .n)
     (c .before .before .before .before .before .before .before .before .before .pre) (c .before .before .before .before .before .before .if1 .left)
 
--- src/phenomena.rt:63:1
 same-length : tie.Need-same-length
 same-length c = search needs
 
--- src/phenomena.rt:63:1
 returns-2 : tie.Need-returns-2
 returns-2 c =
     rw (a-mount (c .before .before .before .before .before .before .before .before .before .before .before .before .args .n)

@@ -5,33 +5,22 @@ use Rattle.pens.proofs.PenLaws.{and-then}
 use borrow.Author.Needs.{needs}
 use Rattle.writer.proofs.phenomena.put_named.Statement.{statement}
 use Rattle.writer.proofs.phenomena.put_named.Tie as tie
-use Rattle.writer.proofs.phenomena.put_named.Reads as reads
-use Rattle.writer.proofs.phenomena.put_named.Lts as lts
-use Rattle.pens.proofs.put_word.Reads as put-word-reads
-use Rattle.writer.proofs.phenomena.put_first.Reads as put-first-reads
-use Rattle.writer.proofs.phenomena.put_second.Reads as put-second-reads
 
--- src/phenomena.rt:55:9
 put-first-requires : tie.Need-put-first-requires
 put-first-requires c κs = search needs
 
--- src/phenomena.rt:56:9
 put-second-requires : tie.Need-put-second-requires
 put-second-requires c κs = search needs
 
--- src/phenomena.rt:58:33
 slice-aggregate-put-word : tie.Need-slice-aggregate-put-word
 slice-aggregate-put-word c = search needs
 
--- src/phenomena.rt:58:9
 put-word-requires : tie.Need-put-word-requires
 put-word-requires c κs = search needs
 
--- src/phenomena.rt:58:9
 same-length : tie.Need-same-length
 same-length c = search needs
 
--- src/phenomena.rt:58:9
 returns : tie.Need-returns
 returns c =
     rw (
@@ -44,11 +33,9 @@ returns c =
     (c .before .before .before .before .before .before .before .before .before .before .before .before .put-first .ensures) (and-then
     (c .before .before .before .before .before .before .before .before .put-second .ensures) (c .before .before .put-word .ensures)))
 
--- src/phenomena.rt:51:1
 same-length-2 : tie.Need-same-length-2
 same-length-2 c = search needs
 
--- src/phenomena.rt:51:1
 returns-2 : tie.Need-returns-2
 returns-2 c =
     rw (

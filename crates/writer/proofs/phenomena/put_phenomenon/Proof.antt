@@ -7,37 +7,27 @@ use Rattle.pens.proofs.PenLaws.{and-then}
 use borrow.Author.Needs.{needs}
 use Rattle.writer.proofs.phenomena.put_phenomenon.Statement.{statement}
 use Rattle.writer.proofs.phenomena.put_phenomenon.Tie as tie
-use Rattle.writer.proofs.phenomena.put_phenomenon.Reads as reads
-use Rattle.writer.proofs.phenomena.put_phenomenon.Lts as lts
-use Rattle.writer.proofs.phenomena.put_named.Reads as put-named-reads
-use Rattle.writer.proofs.phenomena.put_volcano.Reads as put-volcano-reads
 
--- src/phenomena.rt:90:9
 put-named-requires : tie.Need-put-named-requires
 put-named-requires c κs = phenomenon-number (c .before .before .args .n) (c .before .before .args .v) (c .before .before .pre)
 
--- src/phenomena.rt:92:9
 put-volcano-requires : tie.Need-put-volcano-requires
 put-volcano-requires c κs =
     erupted (c .before .before .before .before .before .before .before .args .n) (c .before .before .before .before .before .before .before .args .v)
     (c .before .before .before .before .before .before .before .pre) (c .before .if1 .taken)
 
--- src/phenomena.rt:92:9
 same-length : tie.Need-same-length
 same-length c = search needs
 
--- src/phenomena.rt:92:9
 returns : tie.Need-returns
 unfolding phenomenonWords
 returns c =
     rw (eq-eqb _ 17 (c .before .before .before .before .if1 .taken)) (and-then
     (c .before .before .before .before .before .before .before .put-named .ensures) (c .before .before .put-volcano .ensures))
 
--- src/phenomena.rt:86:1
 same-length-2 : tie.Need-same-length-2
 same-length-2 c = search needs
 
--- src/phenomena.rt:86:1
 returns-2 : tie.Need-returns-2
 unfolding phenomenonWords
 returns-2 c = rw (ne-eqb _ 17 (c .if1 .left), append-nil) (c .before .before .before .put-named .ensures)

@@ -11,9 +11,6 @@ use Rattle.writer.proofs.Tables.{one-of-four, ranged, past, other-way}
 use borrow.Author.Needs.{needs}
 use Rattle.writer.proofs.phenomena.put_second.Statement.{statement}
 use Rattle.writer.proofs.phenomena.put_second.Tie as tie
-use Rattle.writer.proofs.phenomena.put_second.Reads as reads
-use Rattle.writer.proofs.phenomena.put_second.Lts as lts
-use Rattle.pens.proofs.put_word.Reads as put-word-reads
 
 -- none of the numbers 1 to 9, one by one
 past-nine : (c : tie.At-match-rest) → 10 ≤ c .before .before .args .n
@@ -31,150 +28,116 @@ past-nine c =
     (past 1 (c .before .before .pre .0) (λ e. plain (inl e))) (λ e. hail (inl e))) (λ e. plain (inr (inl e)))) (λ e. hail (inr (inl e)))) (λ e. plain (inr (inr (inl e))))) (λ e. hail (inr (inr (inl e))))) (λ e. plain (inr (inr (inr e))))) (λ e. hail (inr (inr (inr e)))))
     (c .match .rest .0 .0 .0 .1)
 
--- src/phenomena.rt:38:44
 slice-aggregate-put-word : tie.Need-slice-aggregate-put-word
 slice-aggregate-put-word c = search needs
 
--- src/phenomena.rt:38:26
 put-word-requires : tie.Need-put-word-requires
 put-word-requires c κs = search needs
 
--- src/phenomena.rt:39:44
 slice-aggregate-put-word-2 : tie.Need-slice-aggregate-put-word-2
 slice-aggregate-put-word-2 c = search needs
 
--- src/phenomena.rt:39:26
 put-word-requires-2 : tie.Need-put-word-requires-2
 put-word-requires-2 c κs = search needs
 
--- src/phenomena.rt:40:32
 slice-aggregate-put-word-3 : tie.Need-slice-aggregate-put-word-3
 slice-aggregate-put-word-3 c = search needs
 
--- src/phenomena.rt:40:14
 put-word-requires-3 : tie.Need-put-word-requires-3
 put-word-requires-3 c κs = search needs
 
--- src/phenomena.rt:42:33
 slice-aggregate-put-word-4 : tie.Need-slice-aggregate-put-word-4
 slice-aggregate-put-word-4 c = search needs
 
--- src/phenomena.rt:42:15
 put-word-requires-4 : tie.Need-put-word-requires-4
 put-word-requires-4 c κs = search needs
 
--- src/phenomena.rt:43:33
 slice-aggregate-put-word-5 : tie.Need-slice-aggregate-put-word-5
 slice-aggregate-put-word-5 c = search needs
 
--- src/phenomena.rt:43:15
 put-word-requires-5 : tie.Need-put-word-requires-5
 put-word-requires-5 c κs = search needs
 
--- src/phenomena.rt:44:33
 slice-aggregate-put-word-6 : tie.Need-slice-aggregate-put-word-6
 slice-aggregate-put-word-6 c = search needs
 
--- src/phenomena.rt:44:15
 put-word-requires-6 : tie.Need-put-word-requires-6
 put-word-requires-6 c κs = search needs
 
--- src/phenomena.rt:41:38
 slice-aggregate-put-word-7 : tie.Need-slice-aggregate-put-word-7
 slice-aggregate-put-word-7 c = search needs
 
--- src/phenomena.rt:41:20
 put-word-requires-7 : tie.Need-put-word-requires-7
 put-word-requires-7 c κs = search needs
 
--- src/phenomena.rt:45:38
 slice-aggregate-put-word-8 : tie.Need-slice-aggregate-put-word-8
 slice-aggregate-put-word-8 c = search needs
 
--- src/phenomena.rt:45:20
 put-word-requires-8 : tie.Need-put-word-requires-8
 put-word-requires-8 c κs = search needs
 
--- src/phenomena.rt:46:32
 slice-aggregate-put-word-9 : tie.Need-slice-aggregate-put-word-9
 slice-aggregate-put-word-9 c = search needs
 
--- src/phenomena.rt:46:14
 put-word-requires-9 : tie.Need-put-word-requires-9
 put-word-requires-9 c κs = search needs
 
--- src/phenomena.rt:33:1
 same-length : tie.Need-same-length
 same-length c = search needs
 
--- src/phenomena.rt:33:1
 returns : tie.Need-returns
 unfolding phenomena
 returns c =
     rw (one-of-four secondWord (bytes "TS") 1 3 5 7 (c .before .before .before .before .before .before .before .args .n) refl refl refl refl
     (c .before .before .before .before .before .match .keys1)) (c .before .before .put-word .ensures)
 
--- src/phenomena.rt:33:1
 same-length-2 : tie.Need-same-length-2
 same-length-2 c = search needs
 
--- src/phenomena.rt:33:1
 returns-2 : tie.Need-returns-2
 unfolding phenomena
 returns-2 c =
     rw (one-of-four secondWord (bytes "TSGR") 2 4 6 8 (c .before .before .before .before .before .before .before .args .n) refl refl refl refl
     (c .before .before .before .before .before .match .keys2)) (c .before .before .put-word2 .ensures)
 
--- src/phenomena.rt:33:1
 same-length-3 : tie.Need-same-length-3
 same-length-3 c = search needs
 
--- src/phenomena.rt:33:1
 returns-3 : tie.Need-returns-3
 unfolding phenomena
 returns-3 c = rw (c .before .before .before .before .before .match .keys3) (c .before .before .put-word3 .ensures)
 
--- src/phenomena.rt:33:1
 same-length-4 : tie.Need-same-length-4
 same-length-4 c = search needs
 
--- src/phenomena.rt:33:1
 returns-4 : tie.Need-returns-4
 unfolding phenomena
 returns-4 c = rw (c .before .before .before .before .before .match .keys4) (c .before .before .put-word4 .ensures)
 
--- src/phenomena.rt:33:1
 same-length-5 : tie.Need-same-length-5
 same-length-5 c = search needs
 
--- src/phenomena.rt:33:1
 returns-5 : tie.Need-returns-5
 unfolding phenomena
 returns-5 c = rw (c .before .before .before .before .before .match .keys5) (c .before .before .put-word5 .ensures)
 
--- src/phenomena.rt:33:1
 same-length-6 : tie.Need-same-length-6
 same-length-6 c = search needs
 
--- src/phenomena.rt:33:1
 returns-6 : tie.Need-returns-6
 unfolding phenomena
 returns-6 c = rw (c .before .before .before .before .before .match .keys6) (c .before .before .put-word6 .ensures)
 
--- src/phenomena.rt:33:1
 same-length-7 : tie.Need-same-length-7
 same-length-7 c = search needs
 
--- src/phenomena.rt:33:1
 returns-7 : tie.Need-returns-7
 unfolding phenomena same
 returns-7 c = rw (ranged secondWord (bytes "ICE") 10 2 (c .before .before .before .before .before .before .before .before .before .args .n) refl (past-nine (c .before .before .before .before .before .before .before)) (c .before .before .before .before .before .if2 .taken)) (c .before .before .put-word7 .ensures)
 
--- src/phenomena.rt:33:1
 same-length-8 : tie.Need-same-length-8
 same-length-8 c = search needs
 
--- src/phenomena.rt:33:1
 returns-8 : tie.Need-returns-8
 unfolding phenomena same
 returns-8 c =
@@ -182,11 +145,9 @@ returns-8 c =
     (c .before .before .before .before .before .before .before .before .before .before .args .n) refl (omega arith) (omega arith))
     (c .before .before .put-word8 .ensures)
 
--- src/phenomena.rt:33:1
 same-length-9 : tie.Need-same-length-9
 same-length-9 c = search needs
 
--- src/phenomena.rt:33:1
 returns-9 : tie.Need-returns-9
 unfolding phenomena same
 returns-9 c =

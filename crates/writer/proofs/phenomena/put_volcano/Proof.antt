@@ -5,41 +5,28 @@ use Rattle.pens.proofs.PenLaws.{and-then, split-word}
 use borrow.Author.Needs.{needs}
 use Rattle.writer.proofs.phenomena.put_volcano.Statement.{statement}
 use Rattle.writer.proofs.phenomena.put_volcano.Tie as tie
-use Rattle.writer.proofs.phenomena.put_volcano.Reads as reads
-use Rattle.writer.proofs.phenomena.put_volcano.Lts as lts
-use Rattle.pens.proofs.put_word.Reads as put-word-reads
-use Rattle.writer.proofs.locating.put_point.Reads as put-point-reads
-use Rattle.writer.proofs.phenomena.put_mount.Reads as put-mount-reads
 
--- src/phenomena.rt:80:9
 put-mount-requires : tie.Need-put-mount-requires
 put-mount-requires c κs = record { holds = volcano-parts (c .before .before .before .before .args .v) (c .before .before .before .before .pre) .name }
 
--- src/phenomena.rt:81:30
 slice-aggregate-put-word : tie.Need-slice-aggregate-put-word
 slice-aggregate-put-word c = search needs
 
--- src/phenomena.rt:81:9
 put-word-requires : tie.Need-put-word-requires
 put-word-requires c κs = search needs
 
--- src/phenomena.rt:82:9
 put-point-requires : tie.Need-put-point-requires
 put-point-requires c κs = search needs
 
--- src/phenomena.rt:83:22
 slice-aggregate-put-word-2 : tie.Need-slice-aggregate-put-word-2
 slice-aggregate-put-word-2 c = search needs
 
--- src/phenomena.rt:83:5
 put-word-requires-2 : tie.Need-put-word-requires-2
 put-word-requires-2 c κs = search needs
 
--- src/phenomena.rt:74:1
 same-length : tie.Need-same-length
 same-length c = search needs
 
--- src/phenomena.rt:74:1
 returns : tie.Need-returns
 returns c =
     and-then

@@ -1,4 +1,5 @@
--- What the writer counts lies within the buffer: a law of `writeOf` that both programs need, the same file in `sigmet` and `examples`. Assumes nothing.
+-- What is counted as written lies within the buffer, by the definition that `write`'s contract cites: a refusal counts 0, and otherwise the buffer begins with the text that is counted.
+-- Assumes nothing.
 use mathlib.Core.Bool.{Bool, true, false, not}
 use mathlib.Core.List.{List}
 use mathlib.Core.Path.{_≡_, subst, sym}
@@ -15,7 +16,6 @@ use Rattle.grammar.specs.Writes.{Wrote, unwritten, written, writeOf}
 abbrev Within : Wrote → Type 0
 Within w = w .count ≤ length (w .buffer)
 
--- a refusal counts 0; otherwise the buffer begins with the text that is counted
 by-case : (bad long short : Bool) (text buffer : List ℕ)
     → Within (pick bad (unwritten 13 buffer) (pick long (unwritten 24 buffer) (pick short (unwritten 14 buffer) (written text buffer))))
 by-case true long short text buffer = omega arith
