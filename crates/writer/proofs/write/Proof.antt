@@ -63,7 +63,10 @@ array-share-prefix-page : tie.Need-array-share-prefix-page
 array-share-prefix-page c = search needs
 
 slice-aggregate-put-all : tie.Need-slice-aggregate-put-all
-slice-aggregate-put-all c = sym (length-take-le _ _ (omega (arith, c .before .before .before .before .before .put-text .kept .0, length-replicate {A = ℕ} 2049 0)))
+slice-aggregate-put-all c =
+    let page = c .before .before .before .before .before .put-text .last .0 in
+    let long : length page ≡ 2049 = c .before .before .before .before .before .put-text .kept .0 ∙ length-replicate {A = ℕ} 2049 0 in
+    sym (length-take-le _ page (omega arith))
 
 put-all-requires : tie.Need-put-all-requires
 put-all-requires c κs = search needs

@@ -1,0 +1,10 @@
+-- `refused` meets its contract: the number given, and no byte counted. Assumes nothing.
+use mathlib.Core.Path.{refl}
+use Rattle.writer.proofs.refused.Statement.{statement}
+use Rattle.writer.proofs.refused.Tie as tie
+
+returns : tie.Need-returns
+returns c = (refl, refl)
+
+pub refused-spec : {M : Type 1} → statement M
+refused-spec = tie.close (tie.spec returns)
