@@ -1,0 +1,2 @@
+-- placeholder
+use mathlib.Core.Path.{_≡_, refl}

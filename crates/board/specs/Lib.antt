@@ -1,0 +1,5 @@
+pub mod Padded
+pub mod Places
+pub mod Boards
+pub mod Claims
+pub mod Posts

@@ -1,0 +1,65 @@
+// The test of a good board.
+ghost use mathlib.Core.Path.{_≡_};
+ghost use Prim.Native.Nat.{_<_, _+_};
+ghost use lib.ListN.{drop, getD};
+ghost use Rattle.lists.specs.Lists.{allOf};
+ghost use Rattle.board.specs.Places.{noPlace, goodPlace};
+ghost use Rattle.board.specs.Boards.{inRange, differs, distinct};
+use crate::Board;
+use crate::Place;
+use crate::places::empty_place;
+use crate::places::good_place;
+use crate::places::same_identity;
+use lists::both;
+use lists::either;
+
+pub(crate) fn in_range(clock: u32) -> bool
+    ensures { λ r. ⌜ r ≡ inRange clock ⌝ }
+{
+    both(Board::FIRST_CLOCK <= clock, clock <= Board::LAST_CLOCK)
+}
+
+// All places are good.
+pub(crate) fn good_places(clock: u32, places: [Place; 64]) -> bool
+    ensures { λ r. ⌜ r ≡ allOf (goodPlace clock) places ⌝ }
+{
+    let mut i = 0;
+    while i < 64 {
+        if !good_place(clock, places[i]) {
+            return false;
+        }
+        i += 1;
+    }
+    true
+}
+
+// No place from `start` on has the identity of p.
+fn differ_from(p: Place, places: [Place; 64], start: usize) -> bool
+    ensures { λ r. ⌜ r ≡ allOf (differs p) (drop start places) ⌝ }
+{
+    let identity = p.identity;
+    let mut i = start;
+    while i < 64 {
+        let other = places[i].identity;
+        if same_identity(identity, other) {
+            return false;
+        }
+        i += 1;
+    }
+    true
+}
+
+// No identity is held twice.
+pub(crate) fn are_distinct(places: [Place; 64]) -> bool
+    ensures { λ r. ⌜ r ≡ distinct places ⌝ }
+{
+    let mut i = 0;
+    while i < 64 {
+        let p = places[i];
+        if !either(empty_place(p), differ_from(p, places, i + 1)) {
+            return false;
+        }
+        i += 1;
+    }
+    true
+}
