@@ -40,7 +40,8 @@ fn differ_from(p: Place, places: [Place; 64], start: usize) -> bool
     let identity = p.identity;
     let mut i = start;
     while i < 64 {
-        let other = places[i].identity;
+        let q = places[i];
+        let other = q.identity;
         if same_identity(identity, other) {
             return false;
         }

@@ -1,6 +1,7 @@
 // A sequence as written, its characters filled up to three with spaces, as one number.
 ghost use mathlib.Core.Bool.{true};
 ghost use mathlib.Core.Path.{_≡_};
+ghost use Prim.Native.Nat.{_+_, _*_, _%_, _<_};
 ghost use Rattle.headings.specs.Sequences.{goodSequence, sequenceOf};
 ghost use Rattle.board.specs.Padded.{paddedOf, heldSequence, unpadded};
 use headings::Sequence;

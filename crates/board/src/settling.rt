@@ -39,7 +39,8 @@ fn find(i: Identity, places: [Place; 64]) -> usize
 {
     let mut k = 0;
     while k < 64 {
-        let other = places[k].identity;
+        let p = places[k];
+        let other = p.identity;
         if same_identity(i, other) {
             return k;
         }

@@ -1,0 +1,71 @@
+-- 01, "The listing is records of one kind byte and a body whose length the kind fixes: kind 1, the time asked (4 bytes); kinds 2 (WS) and
+-- 3 (WV), 16 bytes: area 4, sequence 3 padded, correction 1 (space or letter), start 4, end 4. Numbers are big-endian. Kind 1 comes first".
+-- Assumes nothing.
+use mathlib.Core.List.{List, [], _∷_, _++_}
+use mathlib.Core.Path.{_≡_}
+use Prim.Native.Char.{code}
+use Prim.Native.Nat.{ℕ}
+use lib.Dec.{ltb, eqb}
+use lib.ListN.{length, drop}
+use Rattle.lists.specs.Choice.{pick}
+use Rattle.figures.specs.Letters.{inLetters}
+use Rattle.board.specs.Boards.{refusalAt}
+use Rattle.board.specs.declared.Board.{Board}
+use Rattle.board.specs.declared.Place.{Place}
+use Rattle.listing.specs.Rows.{rowsOf}
+use Rattle.listing.specs.declared.Listed.{Listed}
+
+-- "kind 1, the time asked (4 bytes)"
+unfoldable pub timeRecord : ℕ → List ℕ
+timeRecord time = 1 ∷ inLetters 4 time
+
+-- "correction 1 (space or letter)"
+abbrev pub correctionByte : ℕ → ℕ
+correctionByte c = pick (eqb c 0) (code " ") c
+
+-- "kinds 2 (WS) and 3 (WV), 16 bytes: area 4, sequence 3 padded, correction 1 (space or letter), start 4, end 4"
+unfoldable pub messageRecord : Place → List ℕ
+messageRecord p =
+    p .identity .kind
+    ∷ (inLetters 4 (p .identity .area)
+    ++ (inLetters 3 (p .identity .sequence)
+    ++ (correctionByte (p .correction) ∷ (inLetters 4 (p .identity .start) ++ inLetters 4 (p .identity .end)))))
+
+-- one record after the other
+unfoldable pub records : List Place → List ℕ
+records [] = []
+records (p ∷ ps) = messageRecord p ++ records ps
+
+-- "Kind 1 comes first, and each record goes in from the place where the one before it ended."
+unfoldable pub listingOf : ℕ → List Place → List ℕ
+listingOf time places = timeRecord time ++ records (rowsOf time places)
+
+-- the reply of a listing with the buffer as it is then
+pub record Told : Type 0 where
+  pub answer : ℕ
+  pub count : ℕ
+  pub buffer : List ℕ
+
+-- "Count 0, buffer untouched."
+abbrev pub untold : ℕ → List ℕ → Told
+untold number buffer = record { answer = number; count = 0; buffer = buffer }
+
+-- "the count written is returned"; "On success of writer or listing the bytes past the count stay."
+abbrev pub tells : List ℕ → List ℕ → Told
+tells listing buffer = record { answer = 0; count = length listing; buffer = listing ++ drop (length listing) buffer }
+
+-- "Listing: 36, 16, 17, then 14 (count 0, buffer untouched)."
+unfoldable pub listOf : Board → ℕ → List ℕ → Told
+listOf b time buffer =
+    pick (eqb (refusalAt b time) 0)
+    (pick (ltb (length buffer) (length (listingOf time (b .places)))) (untold 14 buffer) (tells (listingOf time (b .places)) buffer))
+    (untold (refusalAt b time) buffer)
+
+-- the reply of `list` with the buffer as it is then
+abbrev pub told : Listed → List ℕ → Told
+told r buffer = record { answer = r .answer; count = r .count; buffer = buffer }
+
+-- rows written at the front of a page, with the count of bytes
+pub record Lists (time : ℕ) (rows : List Place) (page : List ℕ) (count : ℕ) (after : List ℕ) : Type 0 where
+  pub counted : count ≡ length (timeRecord time ++ records rows)
+  pub page-then : after ≡ (timeRecord time ++ records rows) ++ drop (length (timeRecord time ++ records rows)) page
