@@ -1,1 +1,4 @@
+pub mod MonthLaws
+pub mod TableLaws
 pub mod CalendarLaws
+pub mod DayLaws
