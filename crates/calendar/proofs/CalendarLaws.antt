@@ -2,17 +2,17 @@
 -- Assumes nothing.
 use mathlib.Core.Bool.{Bool, true, false}
 use mathlib.Core.Path.{_≡_, refl, sym, ap, subst, _∙_}
-use Prim.Native.Nat.{ℕ, suc, _+_, _-_, _*_, _/_, _%_, _≤_, _<_}
+use Prim.Native.Nat.{ℕ, _+_, _-_, _*_, _/_, _%_, _≤_, _<_}
 use native.Mathlib.Omega.{arith}
 use lib.Dec.{leb, ltb, eqb}
 use borrow.Author.Tests.{leb-true, leb-false, ltb-true, ltb-false, eqb-true, eqb-false, le-leb, lt-ltb, eq-eqb}
-use Rattle.lists.specs.Choice.{pick, both}
+use Rattle.lists.specs.Choice.{both}
 use Rattle.lists.proofs.Choice.{by, clash, both-left, both-right, both-true, both-four, pick-true, pick-false}
 use Rattle.groups.specs.declared.Group.{Group}
-use Rattle.calendar.specs.Gregorian.{monthLength, firstDay, dayFrom, dayOfMonth, never, days, months, Falls}
+use Rattle.calendar.specs.Gregorian.{monthLength, firstDay, dayFrom, dayOfMonth, never, Falls}
 use Rattle.calendar.specs.Instants.{matches, minuteOn, onDay, orElse, instantIn, startOf, limitOf, endOf, targetOf}
 use Rattle.calendar.specs.Declared.{Has, IsStart, IsEnd, IsTarget}
-use Rattle.calendar.proofs.MonthLaws.{first-gap, falls-some, falls-only, day-of-month}
+use Rattle.calendar.proofs.MonthLaws.{first-gap, falls-some, day-of-month}
 
 -- An instant that has the group, by the test and in the paper's words.
 
@@ -39,7 +39,7 @@ module _ (g : Group) (t : ℕ) where
         falls = month .1;
         day = omega (arith, day-of-month (month .1));
         hour = eqb-true (t / 60 % 24) (g .hour) (four .2);
-        minute = eqb-true (t % 60) (g .minute) (four .3)
+        minute = eqb-true (t % 60) (g .minute) (four .3);
       }
 
   pub has-matches : Has g t → matches g t ≡ true
@@ -59,11 +59,11 @@ same-day p q h k =
     by (ltb (p .month) (q .month))
     (λ (t : ltb (p .month) (q .month) ≡ true). absurd (not-soon p q h k (ltb-true (p .month) (q .month) t)))
     (λ (t : ltb (p .month) (q .month) ≡ false).
-      by (ltb (q .month) (p .month))
-      (λ (u : ltb (q .month) (p .month) ≡ true). absurd (not-soon q p k h (ltb-true (q .month) (p .month) u)))
-      (λ (u : ltb (q .month) (p .month) ≡ false).
-        let same : p .month ≡ q .month = omega (arith, ltb-false (p .month) (q .month) t, ltb-false (q .month) (p .month) u) in
-        omega (arith, ap firstDay same)))
+    by (ltb (q .month) (p .month))
+    (λ (u : ltb (q .month) (p .month) ≡ true). absurd (not-soon q p k h (ltb-true (q .month) (p .month) u)))
+    (λ (u : ltb (q .month) (p .month) ≡ false).
+    let same : p .month ≡ q .month = omega (arith, ltb-false (p .month) (q .month) t, ltb-false (q .month) (p .month) u) in
+    omega (arith, ap firstDay same)))
 
 -- an instant by its day, hour and minute
 pub in-parts : (t : ℕ) → t ≡ t / 1440 * 1440 + (t / 60 % 24 * 60 + t % 60)
@@ -95,7 +95,7 @@ module _ (g : Group) (low high : ℕ) where
       record {
         has = matches-has g t (both-right (window t) (matches g t) e);
         from = leb-true low t (both-left (leb low t) (ltb t high) inside);
-        until = ltb-true t high (both-right (leb low t) (ltb t high) inside)
+        until = ltb-true t high (both-right (leb low t) (ltb t high) inside);
       }
 
   passes : (t : ℕ) → In g low high t → both (window t) (matches g t) ≡ true
@@ -122,10 +122,10 @@ module _ (g : Group) (low high : ℕ) where
   on-result day =
       by (both (window (minuteOn g day)) (matches g (minuteOn g day)))
       (λ (t : both (window (minuteOn g day)) (matches g (minuteOn g day)) ≡ true).
-        let i : In g low high (minuteOn g day) = tested (minuteOn g day) t in
-        rw (on-there day i) (found i))
+      let i : In g low high (minuteOn g day) = tested (minuteOn g day) t in
+      rw (on-there day i) (found i))
       (λ (t : both (window (minuteOn g day)) (matches g (minuteOn g day)) ≡ false).
-        rw (on-none day (λ i. clash _ (passes (minuteOn g day) i) t)) none)
+      rw (on-none day (λ i. clash _ (passes (minuteOn g day) i) t)) none)
 
   or-found : {a b : ℕ} → Found a → Found b → Found (orElse a b)
   or-found {a} {b} (found i) q = rw (lt-ltb a never (i .has .instant)) (found i)
@@ -181,7 +181,7 @@ absent : {g : Group} {t n : ℕ} → n ≡ never → n ≡ t → Has g t → ⊥
 absent e f h = omega (arith, h .instant)
 
 pub limit-most : (kind : ℕ) → limitOf kind ≤ 360
-limit-most kind = 
+limit-most kind =
     by (eqb kind 2)
     (λ (t : eqb kind 2 ≡ true). rw t (omega arith))
     (λ (t : eqb kind 2 ≡ false). rw t (omega arith))
@@ -234,8 +234,8 @@ module _ (kind start : ℕ) (g : Group) where
       by (leb t u)
       (λ (e : leb t u ≡ true). leb-true t u e)
       (λ (e : leb t u ≡ false).
-        let less : u < t = leb-false t u e in
-        omega (arith, only-one (start + 1) (start + limitOf kind + 1) end-wide (omega arith) (omega (arith, i .until)) (i .from) (i .until) h (i .has)))
+      let less : u < t = leb-false t u e in
+      omega (arith, only-one (start + 1) (start + limitOf kind + 1) end-wide (omega arith) (omega (arith, i .until)) (i .from) (i .until) h (i .has)))
 
   pub end-within : endOf kind start g < never → (start < endOf kind start g) × (endOf kind start g ≤ start + limitOf kind)
   end-within h = let i = end-in h in (omega (arith, i .from), omega (arith, i .until))
@@ -281,8 +281,8 @@ module _ (kind end : ℕ) (g : Group) where
       by (leb u t)
       (λ (e : leb u t ≡ true). leb-true u t e)
       (λ (e : leb u t ≡ false).
-        let less : t < u = leb-false u t e in
-        omega (arith, only-one (end - limitOf kind) end target-wide (i .from) (i .until) (omega (arith, i .from)) l (i .has) h))
+      let less : t < u = leb-false u t e in
+      omega (arith, only-one (end - limitOf kind) end target-wide (i .from) (i .until) (omega (arith, i .from)) l (i .has) h))
 
   pub target-within : targetOf kind end g < never → (targetOf kind end g < end) × (end ≤ targetOf kind end g + limitOf kind)
   target-within h = let i = target-in h in (i .until, omega (arith, i .from))

@@ -2,3 +2,4 @@ pub mod MonthLaws
 pub mod TableLaws
 pub mod CalendarLaws
 pub mod DayLaws
+pub mod Determined

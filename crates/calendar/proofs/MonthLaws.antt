@@ -1,7 +1,7 @@
 -- The months of the Gregorian rule: how long they are, where they begin, and that a day of the hundred years falls in just one.
 -- Assumes nothing.
 use mathlib.Core.Bool.{Bool, true, false}
-use mathlib.Core.Path.{_≡_, refl, sym, ap, _∙_}
+use mathlib.Core.Path.{_≡_, refl, ap, _∙_}
 use Prim.Native.Nat.{ℕ, zero, suc, _+_, _-_, _/_, _%_, _≤_, _<_}
 use native.Mathlib.Omega.{arith}
 use lib.Dec.{leb, ltb, eqb}
@@ -57,16 +57,16 @@ first-gap m (suc n) h =
     by (ltb m n)
     (λ (t : ltb m n ≡ true). omega (arith, first-gap m n (ltb-true m n t), first-next n))
     (λ (t : ltb m n ≡ false).
-      let here : m ≡ n = omega (arith, ltb-false m n t) in
-      omega (arith, ap firstDay here, first-next n, month-least n))
+    let here : m ≡ n = omega (arith, ltb-false m n t) in
+    omega (arith, ap firstDay here, first-next n, month-least n))
 
 pub first-order : (m n : ℕ) → m ≤ n → firstDay m ≤ firstDay n
 first-order m n h =
     by (ltb m n)
     (λ (t : ltb m n ≡ true). omega (arith, first-gap m n (ltb-true m n t)))
     (λ (t : ltb m n ≡ false).
-      let here : m ≡ n = omega (arith, ltb-false m n t) in
-      omega (arith, ap firstDay here))
+    let here : m ≡ n = omega (arith, ltb-false m n t) in
+    omega (arith, ap firstDay here))
 
 -- The month of a day.
 
@@ -76,8 +76,8 @@ month-below day zero h = absurd (omega arith)
 month-below day (suc n) h =
     by (ltb day (firstDay n))
     (λ (t : ltb day (firstDay n) ≡ true).
-      let r = month-below day n (ltb-true day (firstDay n) t) in
-      (r .0, omega (arith, r .1), r .2, r .3))
+    let r = month-below day n (ltb-true day (firstDay n) t) in
+    (r .0, omega (arith, r .1), r .2, r .3))
     (λ (t : ltb day (firstDay n) ≡ false). (n, omega arith, ltb-false day (firstDay n) t, h))
 
 pub falls-some : (day : ℕ) → day < days → (m : ℕ) × Falls day m
@@ -89,13 +89,13 @@ not-later : {day m n : ℕ} → Falls day m → Falls day n → m < n → ⊥
 not-later {day} {m} {n} p q h = omega (arith, first-order (suc m) n h)
 
 pub falls-only : {day m n : ℕ} → Falls day m → Falls day n → m ≡ n
-falls-only {day} {m} {n} p q = 
+falls-only {day} {m} {n} p q =
     by (ltb m n)
     (λ (t : ltb m n ≡ true). absurd (not-later p q (ltb-true m n t)))
     (λ (t : ltb m n ≡ false).
-      by (ltb n m)
-      (λ (u : ltb n m ≡ true). absurd (not-later q p (ltb-true n m u)))
-      (λ (u : ltb n m ≡ false). omega (arith, ltb-false m n t, ltb-false n m u)))
+    by (ltb n m)
+    (λ (u : ltb n m ≡ true). absurd (not-later q p (ltb-true n m u)))
+    (λ (u : ltb n m ≡ false). omega (arith, ltb-false m n t, ltb-false n m u)))
 
 -- What day of its month it is: the months up to p are passed.
 
@@ -113,8 +113,8 @@ module _ (day m : ℕ) (f : Falls day m) where
       by (ltb p m)
       (λ (t : ltb p m ≡ true). ltb-true p m t)
       (λ (t : ltb p m ≡ false).
-        let same : p ≡ m = omega (arith, ltb-false p m t) in
-        absurd (omega (arith, ap firstDay same, ap monthLength same, first-next m, month-least m)))
+      let same : p ≡ m = omega (arith, ltb-false p m t) in
+      absurd (omega (arith, ap firstDay same, ap monthLength same, first-next m, month-least m)))
 
   day-from : (k p : ℕ) → p ≤ m → m < p + k → dayFrom k p (day - firstDay p) ≡ day - firstDay m + 1
   unfolding dayFrom
@@ -122,13 +122,13 @@ module _ (day m : ℕ) (f : Falls day m) where
   day-from (suc k) p h l =
       by (ltb (day - firstDay p) (monthLength p))
       (λ (t : ltb (day - firstDay p) (monthLength p) ≡ true).
-        pick-true (day - firstDay p + 1) (dayFrom k (suc p) (day - firstDay p - monthLength p)) t
-        ∙ ap (λ (n : ℕ). day - firstDay n + 1) (here p h (ltb-true (day - firstDay p) (monthLength p) t)))
+      pick-true (day - firstDay p + 1) (dayFrom k (suc p) (day - firstDay p - monthLength p)) t
+      ∙ ap (λ (n : ℕ). day - firstDay n + 1) (here p h (ltb-true (day - firstDay p) (monthLength p) t)))
       (λ (t : ltb (day - firstDay p) (monthLength p) ≡ false).
-        let rest : day - firstDay p - monthLength p ≡ day - firstDay (suc p) = omega (arith, first-next p) in
-        pick-false (day - firstDay p + 1) (dayFrom k (suc p) (day - firstDay p - monthLength p)) t
-        ∙ ap (dayFrom k (suc p)) rest
-        ∙ day-from k (suc p) (past p h (ltb-false (day - firstDay p) (monthLength p) t)) (omega arith))
+      let rest : day - firstDay p - monthLength p ≡ day - firstDay (suc p) = omega (arith, first-next p) in
+      pick-false (day - firstDay p + 1) (dayFrom k (suc p) (day - firstDay p - monthLength p)) t
+      ∙ ap (dayFrom k (suc p)) rest
+      ∙ day-from k (suc p) (past p h (ltb-false (day - firstDay p) (monthLength p) t)) (omega arith))
 
 pub day-of-month : {day m : ℕ} → Falls day m → dayOfMonth day ≡ day - firstDay m + 1
 unfolding dayOfMonth
