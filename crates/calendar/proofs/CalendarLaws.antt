@@ -12,7 +12,8 @@ use Rattle.groups.specs.declared.Group.{Group}
 use Rattle.calendar.specs.Gregorian.{monthLength, firstDay, dayFrom, dayOfMonth, never, Falls}
 use Rattle.calendar.specs.Instants.{matches, minuteOn, onDay, orElse, instantIn, startOf, limitOf, endOf, targetOf}
 use Rattle.calendar.specs.Declared.{Has, IsStart, IsEnd, IsTarget}
-use Rattle.calendar.proofs.MonthLaws.{first-gap, falls-some, day-of-month}
+use Rattle.calendar.proofs.MonthLaws.{first-gap, day-of-month}
+use Rattle.calendar.proofs.CenturyLaws.{falls-some}
 
 -- An instant that has the group, by the test and in the paper's words.
 

