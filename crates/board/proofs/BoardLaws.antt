@@ -14,7 +14,7 @@ use borrow.Author.Tests.{lt-ltb, le-ltb, not-true, not-false, eq-eqb}
 use Rattle.lists.specs.Choice.{pick, both, either}
 use Rattle.lists.specs.Lists.{allOf}
 use Rattle.board.specs.Places.{noPlace, emptyPlace, goodPlace}
-use Rattle.board.specs.Boards.{inRange, differs, distinct, goodBoard, refusalAt}
+use Rattle.board.specs.Boards.{inRange, differs, distinct, goodPlaces, goodBoard, refusalAt}
 use Rattle.board.specs.declared.Board.{Board}
 use Rattle.board.specs.declared.Place.{Place}
 
@@ -47,11 +47,15 @@ distinct-end ps i h = rw (drop-of-length-le ps h)
 
 -- The whole test.
 
-pub board-good : (b : Board) {range timely places distincts rest r : Bool} → length (b .places) ≡ 64 → range ≡ inRange (b .clock)
-    → timely ≡ either (eqb (b .clock) 0) range → places ≡ allOf (goodPlace (b .clock)) (b .places) → distincts ≡ distinct (b .places)
+pub places-all : (clock : ℕ) (ps : List Place) {r : Bool} → length ps ≡ 64 → r ≡ allOf (goodPlace clock) ps → r ≡ goodPlaces clock ps
+unfolding goodPlaces
+places-all clock ps l e = e ∙ rw l
+
+pub board-good : (b : Board) {range timely places distincts rest r : Bool} → range ≡ inRange (b .clock)
+    → timely ≡ either (eqb (b .clock) 0) range → places ≡ goodPlaces (b .clock) (b .places) → distincts ≡ distinct (b .places)
     → rest ≡ both places distincts → r ≡ both timely rest → r ≡ goodBoard b
 unfolding goodBoard
-board-good b l a t p d e r = r ∙ rw (t, a, e, p, d, l)
+board-good b a t p d e r = r ∙ rw (t, a, e, p, d)
 
 -- "36 not a good board; 16 clock outside its range; 17 clock before the board's"
 

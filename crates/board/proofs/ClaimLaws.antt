@@ -6,11 +6,15 @@ use Prim.Native.Nat.{ℕ, _≤_, _<_}
 use lib.Dec.{leb, eqb}
 use borrow.Author.Tests.{le-leb, lt-leb, eq-eqb, ne-eqb, not-true, not-false}
 use Rattle.lists.specs.Choice.{pick}
+use Rattle.lists.proofs.Choice.{both-left}
 use Rattle.groups.specs.declared.Group.{Group}
 use Rattle.headings.specs.Sequences.{goodSequence}
 use Rattle.headings.specs.declared.Sequence.{Sequence}
-use Rattle.message.specs.Records.{good}
+use Rattle.message.specs.Records.{goodCancellation, goodForm, good}
+use Rattle.message.specs.Reports.{emptyReport}
+use Rattle.message.proofs.Goodness.{good-parts, line-parts, cancellation-parts}
 use Rattle.message.specs.declared.Form.{Form}
+use Rattle.message.specs.declared.Form.the-variants.{NoForm, Test, Cancellation, Reported}
 use Rattle.message.specs.declared.Record.{Record}
 use Rattle.calendar.specs.Gregorian.{never}
 use Rattle.calendar.specs.Instants.{startOf, endOf, targetOf}
@@ -87,3 +91,31 @@ a-claim clock r {start = start} {end = end} e n f t s z x y k =
 
 pub good-known : (r : Record) {g : Bool} → g ≡ good r → not g ≡ false → good r ≡ true
 good-known r e n = sym e ∙ not-false _ n
+
+-- a good record whose start and end are known, by its form
+module _ (clock : ℕ) (r : Record) (start end : ℕ) where
+  pub timed-none : {f : Form} {k : Claim} → f ≡ NoForm → k ≡ unclaimed 13 → k ≡ timed clock r start end f
+  unfolding timed
+  timed-none e k = k ∙ rw e
+
+  pub timed-test : {f : Form} {n : ℕ} {k : Claim} → f ≡ Test n → k ≡ unclaimed 15 → k ≡ timed clock r start end f
+  unfolding timed
+  timed-test e k = k ∙ rw e
+
+  pub timed-cancels : {f : Form} {s : Sequence} {from : Group} {k : Claim} → f ≡ Cancellation s from → k ≡ cancels clock r s from end → k ≡ timed clock r start end f
+  unfolding timed
+  timed-cancels e k = k ∙ rw e
+
+  pub timed-reports : {f : Form} {k : Claim} → f ≡ Reported → k ≡ ending clock end (reportPlace r start end) → k ≡ timed clock r start end f
+  unfolding timed
+  timed-reports e k = k ∙ rw e
+
+-- the sequence that a cancellation names, and a message's own
+pub named-good : (r : Record) {s : Sequence} {from : Group} → good r ≡ true → r .form ≡ Cancellation s from → goodSequence s ≡ true
+unfolding goodForm
+named-good r {s} {from} g e =
+    let f : goodForm (r .heading .designator .kind) (r .line) (r .report) (Cancellation s from) ≡ true = rw e at (good-parts r g .form) in
+    cancellation-parts (r .line) s from (both-left (goodCancellation (r .line) s from) (emptyReport (r .report)) f) .sequence
+
+pub own-good : (r : Record) → good r ≡ true → goodSequence (r .line .sequence) ≡ true
+own-good r g = line-parts (r .line) (good-parts r g .line) .sequence

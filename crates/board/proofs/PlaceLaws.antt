@@ -9,7 +9,7 @@ use borrow.Author.Tests.{lt-ltb, le-ltb, le-leb, lt-leb, leb-true, leb-false}
 use Rattle.lists.specs.Choice.{pick, both, either}
 use Rattle.lists.proofs.Choice.{by, both-right}
 use Rattle.figures.specs.Letters.{goodLetters}
-use Rattle.headings.specs.Headings.{typeWords, goodCorrection}
+use Rattle.headings.specs.Headings.{typeWords, goodType, goodCorrection}
 use Rattle.calendar.specs.Gregorian.{never}
 use Rattle.calendar.specs.Instants.{limitOf}
 use Rattle.board.specs.Padded.{heldSequence}
@@ -31,7 +31,7 @@ short-enough start end limit h =
 pub ends-early : (clock : ℕ) (i : Identity) → i .end ≤ i .start → false ≡ heldIdentity clock i
 unfolding heldIdentity
 ends-early clock i h =
-    rw (le-ltb (i .start) (i .end) h) (sym (both-wrong _))
+    rw (le-ltb (i .start) (i .end) h) (sym (both-wrong (both (goodType (i .kind)) (both (goodLetters 4 (i .area)) (heldSequence (i .sequence))))))
 
 pub held-identity : (clock : ℕ) (i : Identity) {kind letters sequence formed whole last rest r : Bool} {limit : ℕ}
     → kind ≡ both (leb 2 (i .kind)) (leb (i .kind) 3) → letters ≡ goodLetters 4 (i .area) → sequence ≡ heldSequence (i .sequence)

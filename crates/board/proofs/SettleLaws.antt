@@ -15,7 +15,7 @@ use Rattle.message.specs.declared.Record.{Record}
 use Rattle.board.specs.Places.{noPlace, emptyPlace}
 use Rattle.board.specs.Boards.{refusalAt}
 use Rattle.board.specs.Claims.{claimOf}
-use Rattle.board.specs.Posts.{kept, dropped, holds, objection, spotOf, refused, accepted, placeAt, settled, claimedOn, postOf}
+use Rattle.board.specs.Posts.{kept, dropped, holds, objection, spotOf, Finds, refused, accepted, placeAt, settled, claimedOn, postOf}
 use Rattle.board.specs.declared.Board.{Board}
 use Rattle.board.specs.declared.Claim.{Claim}
 use Rattle.board.specs.declared.Place.{Place}
@@ -80,22 +80,26 @@ spot-within ps p z =
     (λ t. rw f (ltb-true _ _ t))
     (λ g. let w = rw (f, g) at z in absurd (omega (arith, w))))
 
-pub at-within : (ps : List Place) (p : Place) {s : Spot} → length ps ≡ 64 → s ≡ spotOf ps p → s .answer ≡ 0 → s .at < 64
-at-within ps p {s} l e z =
-    let n : spotOf ps p .answer ≡ 0 = ap (λ (t : Spot). t .answer) (sym e) ∙ z in
-    let m : s .at ≡ spotOf ps p .at = ap (λ (t : Spot). t .at) e in
-    omega (arith, l, m, spot-within ps p n)
+pub finds : (ps : List Place) (p : Place) {s : Spot} → length ps ≡ 64 → s ≡ spotOf ps p → Finds ps p s
+finds ps p {s} l e =
+    record {
+      says = e;
+      within = λ z.
+          let n : spotOf ps p .answer ≡ 0 = ap (λ (t : Spot). t .answer) (sym e) ∙ z in
+          let m : s .at ≡ spotOf ps p .at = ap (λ (t : Spot). t .at) e in
+          omega (arith, l, m, spot-within ps p n);
+    }
 
 -- settling
-pub settles-not : (b : Board) (clock : ℕ) (p : Place) {left : List Place} {s : Spot} → left ≡ dropped clock (b .places) → s ≡ spotOf left p → (s .answer ≡ 0 → ⊥)
+pub settles-not : (b : Board) (clock : ℕ) (p : Place) {left : List Place} {s : Spot} → left ≡ dropped clock (b .places) → Finds left p s → (s .answer ≡ 0 → ⊥)
     → record { answer = s .answer; board = b } ≡ settled b clock p
 unfolding settled placeAt
-settles-not b clock p {left} {s} e f n = rw (← e, ← f, ne-eqb (s .answer) 0 n)
+settles-not b clock p {left} {s} e f n = rw (← e, ← (f .says), ne-eqb (s .answer) 0 n)
 
-pub settles : (b : Board) (clock : ℕ) (p : Place) {left : List Place} {s : Spot} → left ≡ dropped clock (b .places) → s ≡ spotOf left p → s .answer ≡ 0
+pub settles : (b : Board) (clock : ℕ) (p : Place) {left : List Place} {s : Spot} → left ≡ dropped clock (b .places) → Finds left p s → s .answer ≡ 0
     → record { answer = 0; board = record { clock = clock; places = set left (s .at) p } } ≡ settled b clock p
 unfolding settled placeAt
-settles b clock p {left} {s} e f z = rw (← e, ← f, eq-eqb (s .answer) 0 z)
+settles b clock p {left} {s} e f z = rw (← e, ← (f .says), eq-eqb (s .answer) 0 z)
 
 -- posting
 pub posts-not : (b : Board) (clock : ℕ) (r : Record) {n : ℕ} → n ≡ refusalAt b clock → (n ≡ 0 → ⊥) → record { answer = n; board = b } ≡ postOf b clock r

@@ -38,7 +38,7 @@ both-requires-2 c κs = search needs
 
 -- src/lib.rt:83:5
 returns : tie.Need-returns
-returns c = let long : length (c .before .before .before .before .before .before .before .args .self .places) ≡ 64 = search needs in search (board-good, long)
+returns c = search board-good
 
 pub is-good-spec : {M : Type 1} → statement M
 is-good-spec =

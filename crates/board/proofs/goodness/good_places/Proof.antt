@@ -1,3 +1,4 @@
+use Rattle.board.proofs.BoardLaws.{places-all}
 use mathlib.Core.Path.{_≡_, refl, sym, _∙_}
 use Prim.Native.Nat.{_-_, _≤_}
 use native.Mathlib.Omega.{arith}
@@ -37,7 +38,7 @@ good-place-requires c κs = tt
 
 -- src/goodness.rt:29:13
 returns : tie.Need-returns Inv-loop μ-loop
-returns c = sym (c .before .before .before .before .loop .inv .2 ∙ all-stop (goodPlace (c .before .before .before .before .before .args .clock)) (c .before .before .before .before .before .args .t2) (c .before .before .before .before .loop .i) noPlace (omega arith) (sym (c .before .good-place .ensures) ∙ not-true _ (c .if1 .taken)))
+returns c = places-all _ _ (search needs) (sym (c .before .before .before .before .loop .inv .2 ∙ all-stop (goodPlace (c .before .before .before .before .before .args .clock)) (c .before .before .before .before .before .args .t2) (c .before .before .before .before .loop .i) noPlace (omega arith) (sym (c .before .good-place .ensures) ∙ not-true _ (c .if1 .taken))))
 
 -- src/goodness.rt:31:9
 add-i : tie.Need-add-i Inv-loop μ-loop
@@ -53,7 +54,7 @@ loop-again c = (search needs, omega arith, c .before .before .before .before .lo
 
 -- src/goodness.rt:23:1
 returns-2 : tie.Need-returns-2 Inv-loop μ-loop
-returns-2 c = sym (c .before .loop .inv .2 ∙ all-end (goodPlace (c .before .before .args .clock)) (c .before .before .args .t2) (c .before .loop .i) (omega arith))
+returns-2 c = places-all _ _ (search needs) (sym (c .before .loop .inv .2 ∙ all-end (goodPlace (c .before .before .args .clock)) (c .before .before .args .t2) (c .before .loop .i) (omega arith)))
 
 pub good-places-spec : {M : Type 1} → statement M
 good-places-spec =
