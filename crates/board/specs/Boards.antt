@@ -28,10 +28,12 @@ unfoldable pub distinct : List Place → Bool
 distinct [] = true
 distinct (p ∷ ps) = both (either (emptyPlace p) (allOf (differs p) ps)) (distinct ps)
 
+-- 64 places, each empty or held as it should be at the board's clock
+unfoldable pub goodPlaces : ℕ → List Place → Bool
+goodPlaces clock ps = both (eqb (length ps) placeCount) (allOf (goodPlace clock) ps)
+
 unfoldable pub goodBoard : Board → Bool
-goodBoard b =
-    both (either (eqb (b .clock) 0) (inRange (b .clock)))
-    (both (eqb (length (b .places)) placeCount) (both (allOf (goodPlace (b .clock)) (b .places)) (distinct (b .places))))
+goodBoard b = both (either (eqb (b .clock) 0) (inRange (b .clock))) (both (goodPlaces (b .clock) (b .places)) (distinct (b .places)))
 
 -- "The empty board has clock 0."
 abbrev pub emptyBoard : Board

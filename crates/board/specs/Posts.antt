@@ -4,14 +4,15 @@
 -- Assumes nothing.
 use mathlib.Core.Bool.{Bool, not}
 use mathlib.Core.List.{List, map}
-use Prim.Native.Nat.{ℕ}
+use mathlib.Core.Path.{_≡_}
+use Prim.Native.Nat.{ℕ, _<_}
 use lib.Dec.{leb, ltb, eqb}
 use lib.ListN.{length, getD, set}
 use Rattle.lists.specs.Choice.{pick, both}
 use Rattle.lists.specs.Lists.{indexOf}
 use Rattle.message.specs.declared.Record.{Record}
 use Rattle.board.specs.Places.{sameIdentity, noPlace, emptyPlace}
-use Rattle.board.specs.Boards.{refusalAt}
+use Rattle.board.specs.Boards.{placeCount, refusalAt}
 use Rattle.board.specs.Claims.{claimOf}
 use Rattle.board.specs.declared.Board.{Board}
 use Rattle.board.specs.declared.Claim.{Claim}
@@ -44,6 +45,11 @@ spotOf ps p =
     pick (ltb (indexOf (holds (p .identity)) ps) (length ps))
     (record { answer = objection (getD ps (indexOf (holds (p .identity)) ps) noPlace) p; at = indexOf (holds (p .identity)) ps })
     (record { answer = pick (ltb (indexOf emptyPlace ps) (length ps)) 0 23; at = indexOf emptyPlace ps })
+
+-- the same as the code's promise: where nothing speaks against it, the spot is one of the 64
+pub record Finds (ps : List Place) (p : Place) (s : Spot) : Type 0 where
+  pub says : s ≡ spotOf ps p
+  pub within : s .answer ≡ 0 → s .at < placeCount
 
 -- "Board unchanged, its clock too."
 abbrev pub refused : ℕ → Board → Posted

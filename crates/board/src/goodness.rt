@@ -3,8 +3,7 @@ ghost use mathlib.Core.Path.{_≡_};
 ghost use Prim.Native.Nat.{_<_, _+_};
 ghost use lib.ListN.{drop, getD};
 ghost use Rattle.lists.specs.Lists.{allOf};
-ghost use Rattle.board.specs.Places.{noPlace, goodPlace};
-ghost use Rattle.board.specs.Boards.{inRange, differs, distinct};
+ghost use Rattle.board.specs.Boards.{inRange, differs, distinct, goodPlaces};
 use crate::Board;
 use crate::Place;
 use crate::places::empty_place;
@@ -19,9 +18,9 @@ pub(crate) fn in_range(clock: u32) -> bool
     both(Board::FIRST_CLOCK <= clock, clock <= Board::LAST_CLOCK)
 }
 
-// All places are good.
+// There are 64 places, and all are good.
 pub(crate) fn good_places(clock: u32, places: [Place; 64]) -> bool
-    ensures { λ r. ⌜ r ≡ allOf (goodPlace clock) places ⌝ }
+    ensures { λ r. ⌜ r ≡ goodPlaces clock places ⌝ }
 {
     let mut i = 0;
     while i < 64 {

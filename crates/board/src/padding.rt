@@ -1,7 +1,10 @@
 // A sequence as written, its characters filled up to three with spaces, as one number.
 ghost use mathlib.Core.Bool.{true};
+ghost use mathlib.Core.List.{[], _∷_};
 ghost use mathlib.Core.Path.{_≡_};
 ghost use Prim.Native.Nat.{_+_, _*_, _%_, _<_};
+ghost use lib.Dec.{eqb};
+ghost use Rattle.lists.specs.Lists.{indexOf};
 ghost use Rattle.headings.specs.Sequences.{goodSequence, sequenceOf};
 ghost use Rattle.board.specs.Padded.{paddedOf, heldSequence, unpadded};
 use headings::Sequence;
@@ -18,9 +21,9 @@ fn three(a: u32, b: u32, c: u32) -> u32
 
 // The last figure of a number, as its character.
 fn figure(n: u16) -> u32
-    ensures { λ r. ⌜ r ≡ 48 + n % 10 ⌝ }
+    ensures { λ r. ⌜ r ≡ n % 10 + 48 ⌝ }
 {
-    48 + (n % 10) as u32
+    (n % 10) as u32 + 48
 }
 
 pub(crate) fn padded(s: Sequence) -> u32
@@ -45,22 +48,31 @@ pub(crate) fn padded(s: Sequence) -> u32
     three(letter, tens, ones)
 }
 
+// How many of three characters stand before the first space.
+fn before_space(a: u8, b: u8, c: u8) -> usize
+    ensures { λ r. ⌜ r ≡ indexOf (eqb 32) (a ∷ b ∷ c ∷ []) ⌝ }
+{
+    if a == 32 {
+        return 0;
+    }
+    if b == 32 {
+        return 1;
+    }
+    if c == 32 {
+        return 2;
+    }
+    3
+}
+
 // The sequence that stands before the first space of three characters.
 fn unpad(n: u32) -> Sequence
     ensures { λ r. ⌜ r ≡ sequenceOf (unpadded n) ⌝ }
 {
-    let text = [
-        (n / 256 / 256 % 256) as u8,
-        (n / 256 % 256) as u8,
-        (n % 256) as u8,
-    ];
-    let mut count = 0;
-    while count < 3 {
-        if text[count] == 32 {
-            break;
-        }
-        count += 1;
-    }
+    let a = (n / 256 / 256 % 256) as u8;
+    let b = (n / 256 % 256) as u8;
+    let c = (n % 256) as u8;
+    let count = before_space(a, b, c);
+    let text = [a, b, c];
     sequence_word(&text[..count])
 }
 

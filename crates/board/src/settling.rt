@@ -2,7 +2,7 @@
 ghost use mathlib.Core.Path.{_≡_};
 ghost use Rattle.lists.specs.Lists.{indexOf};
 ghost use Rattle.board.specs.Places.{emptyPlace};
-ghost use Rattle.board.specs.Posts.{kept, dropped, holds, objection, spotOf};
+ghost use Rattle.board.specs.Posts.{kept, dropped, holds, objection, Finds};
 use crate::Identity;
 use crate::Place;
 use crate::Spot;
@@ -81,7 +81,7 @@ fn object(held: Place, p: Place) -> u8
 
 // Where the place goes, or why it does not.
 pub(crate) fn spot_of(places: [Place; 64], p: Place) -> Spot
-    ensures { λ r. ⌜ r ≡ spotOf places p ⌝ }
+    ensures { λ r. ⌜ Finds places p r ⌝ }
 {
     let identity = p.identity;
     let at = find(identity, places);

@@ -1,3 +1,6 @@
+use mathlib.Core.Path.{_≡_}
+use lib.ListN.{length}
+use Rattle.board.proofs.BoardLaws.{board-good}
 use borrow.Author.Needs.{needs}
 use Rattle.board.proofs.Board.is_good.Statement.{statement}
 use Rattle.board.proofs.Board.is_good.Tie as tie
@@ -35,7 +38,7 @@ both-requires-2 c κs = search needs
 
 -- src/lib.rt:83:5
 returns : tie.Need-returns
-returns c = ?
+returns c = search board-good
 
 pub is-good-spec : {M : Type 1} → statement M
 is-good-spec =

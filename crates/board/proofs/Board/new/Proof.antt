@@ -11,7 +11,7 @@ no-place-requires c κs = search needs
 
 -- src/lib.rt:73:5
 returns : tie.Need-returns
-returns c = ?
+returns c = rw (c .no-place .ensures)
 
 pub new-spec : {M : Type 1} → statement M
 new-spec = tie.close (tie.spec no-place-requires returns)

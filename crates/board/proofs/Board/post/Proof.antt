@@ -1,3 +1,4 @@
+use Rattle.board.proofs.SettleLaws.{posts-not, claims-not, posts}
 use borrow.Author.Needs.{needs}
 use Rattle.board.proofs.Board.post.Statement.{statement}
 use Rattle.board.proofs.Board.post.Tie as tie
@@ -13,7 +14,7 @@ refusal-at-requires c κs = search needs
 
 -- src/lib.rt:141:13
 returns : tie.Need-returns
-returns c = ?
+returns c = search posts-not
 
 -- src/lib.rt:146:13
 claim-of-requires : tie.Need-claim-of-requires
@@ -21,7 +22,7 @@ claim-of-requires c κs = search needs
 
 -- src/lib.rt:148:13
 returns-2 : tie.Need-returns-2
-returns-2 c = ?
+returns-2 c = search claims-not
 
 -- src/lib.rt:154:9
 settle-requires : tie.Need-settle-requires
@@ -29,7 +30,7 @@ settle-requires c κs = search needs
 
 -- src/lib.rt:136:5
 returns-3 : tie.Need-returns-3
-returns-3 c = ?
+returns-3 c = search posts
 
 pub post-spec : {M : Type 1} → statement M
 post-spec =

@@ -1,3 +1,5 @@
+use native.Mathlib.Omega.{arith}
+use Rattle.board.proofs.SettleLaws.{settles-not, settles}
 use borrow.Author.Needs.{needs}
 use Rattle.board.proofs.Board.settle.Statement.{statement}
 use Rattle.board.proofs.Board.settle.Tie as tie
@@ -16,19 +18,19 @@ spot-of-requires c κs = search needs
 
 -- src/lib.rt:119:13
 returns : tie.Need-returns
-returns c = ?
+returns c = search settles-not
 
 -- src/lib.rt:125:9
 mul-left : tie.Need-mul-left
-mul-left c = ?
+mul-left c = omega (arith, c .before .before .spot-of .ensures .within (c .if1 .left))
 
 -- src/lib.rt:125:9
 array-set-from-left : tie.Need-array-set-from-left
-array-set-from-left c = ?
+array-set-from-left c = c .before .before .spot-of .ensures .within (c .if1 .left)
 
 -- src/lib.rt:112:5
 returns-2 : tie.Need-returns-2
-returns-2 c = ?
+returns-2 c = search settles
 
 pub settle-spec : {M : Type 1} → statement M
 settle-spec =

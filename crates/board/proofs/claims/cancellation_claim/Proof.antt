@@ -1,3 +1,4 @@
+use Rattle.board.proofs.ClaimLaws.{untargeted, targeted}
 use borrow.Author.Needs.{needs}
 use Rattle.board.proofs.claims.cancellation_claim.Statement.{statement}
 use Rattle.board.proofs.claims.cancellation_claim.Tie as tie
@@ -18,7 +19,7 @@ unclaimed-by-requires c κs = search needs
 
 -- src/claims.rt:77:9
 returns : tie.Need-returns
-returns c = ?
+returns c = search untargeted
 
 -- src/claims.rt:79:9
 identity-of-requires : tie.Need-identity-of-requires
@@ -30,7 +31,7 @@ ending-at-requires c κs = search needs
 
 -- src/claims.rt:71:1
 returns-2 : tie.Need-returns-2
-returns-2 c = ?
+returns-2 c = search targeted
 
 pub cancellation-claim-spec : {M : Type 1} → statement M
 cancellation-claim-spec =

@@ -1,3 +1,4 @@
+use Rattle.board.proofs.ClaimLaws.{bad-record, a-test, no-start, no-end, a-claim, good-known}
 use borrow.Author.Needs.{needs}
 use Rattle.board.proofs.claims.claim_of.Statement.{statement}
 use Rattle.board.proofs.claims.claim_of.Tie as tie
@@ -20,7 +21,7 @@ unclaimed-by-requires c κs = search needs
 
 -- src/claims.rt:117:9
 returns : tie.Need-returns
-returns c = ?
+returns c = search bad-record
 
 -- src/claims.rt:120:8
 is-test-requires : tie.Need-is-test-requires
@@ -32,7 +33,7 @@ unclaimed-by-requires-2 c κs = search needs
 
 -- src/claims.rt:121:9
 returns-2 : tie.Need-returns-2
-returns-2 c = ?
+returns-2 c = search a-test
 
 -- src/claims.rt:126:9
 start-of-requires : tie.Need-start-of-requires
@@ -44,7 +45,7 @@ unclaimed-by-requires-3 c κs = search needs
 
 -- src/claims.rt:128:9
 returns-3 : tie.Need-returns-3
-returns-3 c = ?
+returns-3 c = search no-start
 
 -- src/claims.rt:130:9
 end-of-requires : tie.Need-end-of-requires
@@ -56,15 +57,15 @@ unclaimed-by-requires-4 c κs = search needs
 
 -- src/claims.rt:132:9
 returns-4 : tie.Need-returns-4
-returns-4 c = ?
+returns-4 c = search no-end
 
 -- src/claims.rt:134:5
 timed-claim-requires : tie.Need-timed-claim-requires
-timed-claim-requires c κs = ?
+timed-claim-requires c κs = search good-known
 
 -- src/claims.rt:113:1
 returns-5 : tie.Need-returns-5
-returns-5 c = ?
+returns-5 c = search a-claim
 
 pub claim-of-spec : {M : Type 1} → statement M
 claim-of-spec =

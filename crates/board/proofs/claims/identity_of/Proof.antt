@@ -11,7 +11,7 @@ padded-requires c κs = search needs
 
 -- src/claims.rt:32:1
 returns : tie.Need-returns
-returns c = ?
+returns c = rw (c .padded .ensures)
 
 pub identity-of-spec : {M : Type 1} → statement M
 identity-of-spec = tie.close (tie.spec padded-requires returns)

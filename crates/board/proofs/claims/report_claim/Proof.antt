@@ -1,3 +1,4 @@
+use Rattle.board.proofs.ClaimLaws.{reports}
 use borrow.Author.Needs.{needs}
 use Rattle.board.proofs.claims.report_claim.Statement.{statement}
 use Rattle.board.proofs.claims.report_claim.Tie as tie
@@ -16,7 +17,7 @@ ending-at-requires c κs = search needs
 
 -- src/claims.rt:56:1
 returns : tie.Need-returns
-returns c = ?
+returns c = search reports
 
 pub report-claim-spec : {M : Type 1} → statement M
 report-claim-spec = tie.close (tie.spec identity-of-requires ending-at-requires returns)

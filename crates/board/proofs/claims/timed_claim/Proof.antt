@@ -1,3 +1,4 @@
+use Rattle.board.proofs.ClaimLaws.{timed-none, timed-test, timed-cancels, timed-reports, named-good, own-good}
 use borrow.Author.Needs.{needs}
 use Rattle.board.proofs.claims.timed_claim.Statement.{statement}
 use Rattle.board.proofs.claims.timed_claim.Tie as tie
@@ -29,7 +30,7 @@ enum-known-form c = search needs
 
 -- src/claims.rt:97:40
 cancellation-claim-requires : tie.Need-cancellation-claim-requires
-cancellation-claim-requires c κs = ?
+cancellation-claim-requires c κs = search named-good
 
 -- src/claims.rt:98:27
 enum-told-3 : tie.Need-enum-told-3
@@ -37,23 +38,23 @@ enum-told-3 c = search needs
 
 -- src/claims.rt:98:27
 report-claim-requires : tie.Need-report-claim-requires
-report-claim-requires c κs = ?
+report-claim-requires c κs = search own-good
 
 -- src/claims.rt:89:1
 returns : tie.Need-returns
-returns c = ?
+returns c = search timed-none
 
 -- src/claims.rt:89:1
 returns-2 : tie.Need-returns-2
-returns-2 c = ?
+returns-2 c = search timed-test
 
 -- src/claims.rt:89:1
 returns-3 : tie.Need-returns-3
-returns-3 c = ?
+returns-3 c = search timed-cancels
 
 -- src/claims.rt:89:1
 returns-4 : tie.Need-returns-4
-returns-4 c = ?
+returns-4 c = search timed-reports
 
 pub timed-claim-spec : {M : Type 1} → statement M
 timed-claim-spec =

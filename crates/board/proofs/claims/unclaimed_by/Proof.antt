@@ -11,7 +11,7 @@ no-place-requires c κs = search needs
 
 -- src/claims.rt:22:1
 returns : tie.Need-returns
-returns c = ?
+returns c = cc
 
 pub unclaimed-by-spec : {M : Type 1} → statement M
 unclaimed-by-spec = tie.close (tie.spec no-place-requires returns)

@@ -1,3 +1,4 @@
+use Rattle.board.proofs.PaddedLaws.{bare-one, bare-two, bare-three, lettered-one, lettered-two}
 use borrow.Author.Needs.{needs}
 use Rattle.board.proofs.padding.padded.Statement.{statement}
 use Rattle.board.proofs.padding.padded.Tie as tie
@@ -20,7 +21,7 @@ three-requires c κs = search needs
 
 -- src/padding.rt:34:13
 returns : tie.Need-returns
-returns c = ?
+returns c = search bare-one
 
 -- src/padding.rt:37:13
 three-requires-2 : tie.Need-three-requires-2
@@ -28,7 +29,7 @@ three-requires-2 c κs = search needs
 
 -- src/padding.rt:37:13
 returns-2 : tie.Need-returns-2
-returns-2 c = ?
+returns-2 c = search bare-two
 
 -- src/padding.rt:39:22
 figure-requires-3 : tie.Need-figure-requires-3
@@ -40,7 +41,7 @@ three-requires-3 c κs = search needs
 
 -- src/padding.rt:39:9
 returns-3 : tie.Need-returns-3
-returns-3 c = ?
+returns-3 c = search bare-three
 
 -- src/padding.rt:41:18
 cast-letter : tie.Need-cast-letter
@@ -52,7 +53,7 @@ three-requires-4 c κs = search needs
 
 -- src/padding.rt:43:9
 returns-4 : tie.Need-returns-4
-returns-4 c = ?
+returns-4 c = search lettered-one
 
 -- src/padding.rt:45:5
 three-requires-5 : tie.Need-three-requires-5
@@ -60,7 +61,7 @@ three-requires-5 c κs = search needs
 
 -- src/padding.rt:26:1
 returns-5 : tie.Need-returns-5
-returns-5 c = ?
+returns-5 c = search lettered-two
 
 pub padded-spec : {M : Type 1} → statement M
 padded-spec =

@@ -1,3 +1,4 @@
+use Rattle.board.specs.Places.{emptyPlace}
 use borrow.Author.Needs.{needs}
 use Rattle.board.proofs.places.empty_place.Statement.{statement}
 use Rattle.board.proofs.places.empty_place.Tie as tie
@@ -25,7 +26,8 @@ both-requires-2 c κs = search needs
 
 -- src/places.rt:47:1
 returns : tie.Need-returns
-returns c = ?
+unfolding emptyPlace
+returns c = cc
 
 pub empty-place-spec : {M : Type 1} → statement M
 empty-place-spec =

@@ -1,3 +1,4 @@
+use Rattle.board.specs.Places.{goodPlace, heldPlace}
 use borrow.Author.Needs.{needs}
 use Rattle.board.proofs.places.good_place.Statement.{statement}
 use Rattle.board.proofs.places.good_place.Tie as tie
@@ -31,7 +32,8 @@ either-requires c κs = search needs
 
 -- src/places.rt:74:1
 returns : tie.Need-returns
-returns c = ?
+unfolding goodPlace heldPlace
+returns c = cc
 
 pub good-place-spec : {M : Type 1} → statement M
 good-place-spec =

@@ -1,3 +1,4 @@
+use Rattle.board.specs.Places.{heldCorrection}
 use borrow.Author.Needs.{needs}
 use Rattle.board.proofs.places.held_correction.Statement.{statement}
 use Rattle.board.proofs.places.held_correction.Tie as tie
@@ -21,7 +22,8 @@ either-requires c κs = search needs
 
 -- src/places.rt:68:1
 returns : tie.Need-returns
-returns c = ?
+unfolding heldCorrection
+returns c = cc
 
 pub held-correction-spec : {M : Type 1} → statement M
 held-correction-spec =

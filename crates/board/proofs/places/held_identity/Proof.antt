@@ -1,3 +1,4 @@
+use Rattle.board.proofs.PlaceLaws.{ends-early, held-identity}
 use borrow.Author.Needs.{needs}
 use Rattle.board.proofs.places.held_identity.Statement.{statement}
 use Rattle.board.proofs.places.held_identity.Tie as tie
@@ -34,7 +35,7 @@ limit-of-requires c κs = search needs
 
 -- src/places.rt:62:9
 returns : tie.Need-returns
-returns c = ?
+returns c = search ends-early
 
 -- src/places.rt:64:17
 sub-short : tie.Need-sub-short
@@ -54,7 +55,7 @@ both-requires-6 c κs = search needs
 
 -- src/places.rt:55:1
 returns-2 : tie.Need-returns-2
-returns-2 c = ?
+returns-2 c = search held-identity
 
 pub held-identity-spec : {M : Type 1} → statement M
 held-identity-spec =

@@ -1,3 +1,4 @@
+use Rattle.board.specs.Places.{sameIdentity}
 use borrow.Author.Needs.{needs}
 use Rattle.board.proofs.places.same_identity.Statement.{statement}
 use Rattle.board.proofs.places.same_identity.Tie as tie
@@ -23,7 +24,8 @@ both-requires-4 c κs = search needs
 
 -- src/places.rt:14:1
 returns : tie.Need-returns
-returns c = ?
+unfolding sameIdentity
+returns c = cc
 
 pub same-identity-spec : {M : Type 1} → statement M
 same-identity-spec =

@@ -1,3 +1,15 @@
+use mathlib.Core.Bool.{Bool, not}
+use mathlib.Core.List.{_++_, map}
+use mathlib.Core.Path.{_≡_, refl, sym, ap, _∙_}
+use Prim.Native.Nat.{_-_, _≤_, _+_}
+use native.Mathlib.Omega.{arith}
+use lib.ListN.{length, drop, getD, take}
+use borrow.Author.Needs.{needs}
+use borrow.Author.Tests.{not-true, not-false}
+use Rattle.lists.specs.Lists.{allOf, indexOf, indexFrom}
+use Rattle.lists.proofs.Lists.{all-past, all-stop, all-end, from-here, from-past, from-none, from-zero}
+use Rattle.board.specs.Places.{noPlace, goodPlace, sameIdentity, emptyPlace}
+use Rattle.board.specs.Posts.{kept, dropped, holds}
 use Rattle.board.proofs.settling.find_empty.Statement.{statement}
 use Rattle.board.proofs.settling.find_empty.Tie as tie
 use Rattle.board.proofs.settling.find_empty.Reads as reads
@@ -5,46 +17,46 @@ use Rattle.board.proofs.settling.find_empty.Lts as lts
 use Rattle.board.proofs.places.empty_place.Reads as empty-place-reads
 
 abbrev Inv-loop : tie.InvT-loop
-Inv-loop places k₀ k = ?
+Inv-loop places k₀ k = (length places ≡ 64) × (k ≤ 64) × (indexOf emptyPlace places ≡ indexFrom emptyPlace k places)
 
 abbrev μ-loop : tie.MeasureT-loop
-μ-loop places k₀ k = ?
+μ-loop places k₀ k = 64 - k
 
 -- src/settling.rt:57:5
 loop-holds : tie.Need-loop-holds Inv-loop μ-loop
-loop-holds c = ?
+loop-holds c = (search needs, omega arith, sym (from-zero emptyPlace (c .args .t1)))
 
 -- src/settling.rt:58:24
 mul-empty-place : tie.Need-mul-empty-place Inv-loop μ-loop
-mul-empty-place c = ?
+mul-empty-place c = omega arith
 
 -- src/settling.rt:58:24
 array-copy-out-empty-place : tie.Need-array-copy-out-empty-place Inv-loop μ-loop
-array-copy-out-empty-place c = ?
+array-copy-out-empty-place c = omega arith
 
 -- src/settling.rt:58:12
 empty-place-requires : tie.Need-empty-place-requires Inv-loop μ-loop
-empty-place-requires c κs = ?
+empty-place-requires c κs = tt
 
 -- src/settling.rt:59:13
 returns : tie.Need-returns Inv-loop μ-loop
-returns c = ?
+returns c = sym (c .before .before .before .before .loop .inv .2 ∙ from-here emptyPlace (c .before .before .before .before .before .args .t1) (c .before .before .before .before .loop .k) noPlace (omega arith) (sym (c .before .empty-place .ensures) ∙ c .if1 .taken))
 
 -- src/settling.rt:61:9
 add-k : tie.Need-add-k Inv-loop μ-loop
-add-k c = ?
+add-k c = omega arith
 
 -- src/settling.rt:57:5
 loop-less : tie.Need-loop-less Inv-loop μ-loop
-loop-less c = ?
+loop-less c = omega arith
 
 -- src/settling.rt:57:5
 loop-again : tie.Need-loop-again Inv-loop μ-loop
-loop-again c = ?
+loop-again c = (search needs, omega arith, c .before .before .before .before .loop .inv .2 ∙ from-past emptyPlace (c .before .before .before .before .before .args .t1) (c .before .before .before .before .loop .k) noPlace (omega arith) (sym (c .before .empty-place .ensures) ∙ c .if1 .left))
 
 -- src/settling.rt:53:1
 returns-2 : tie.Need-returns-2 Inv-loop μ-loop
-returns-2 c = ?
+returns-2 c = sym (c .before .loop .inv .2 ∙ from-none emptyPlace (c .before .before .args .t1) (c .before .loop .k) (omega arith))
 
 pub find-empty-spec : {M : Type 1} → statement M
 find-empty-spec =

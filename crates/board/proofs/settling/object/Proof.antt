@@ -1,3 +1,4 @@
+use Rattle.board.proofs.SettleLaws.{objects-22, objects-21, corrects-not, objects-not}
 use borrow.Author.Needs.{needs}
 use Rattle.board.proofs.settling.object.Statement.{statement}
 use Rattle.board.proofs.settling.object.Tie as tie
@@ -11,11 +12,11 @@ both-requires c κs = search needs
 
 -- src/settling.rt:71:9
 returns : tie.Need-returns
-returns c = ?
+returns c = search objects-22
 
 -- src/settling.rt:74:9
 returns-2 : tie.Need-returns-2
-returns-2 c = ?
+returns-2 c = search objects-21
 
 -- src/settling.rt:76:8
 both-requires-2 : tie.Need-both-requires-2
@@ -23,11 +24,11 @@ both-requires-2 c κs = search needs
 
 -- src/settling.rt:77:9
 returns-3 : tie.Need-returns-3
-returns-3 c = ?
+returns-3 c = search corrects-not
 
 -- src/settling.rt:67:1
 returns-4 : tie.Need-returns-4
-returns-4 c = ?
+returns-4 c = search objects-not
 
 pub object-spec : {M : Type 1} → statement M
 object-spec =

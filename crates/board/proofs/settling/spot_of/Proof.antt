@@ -1,3 +1,6 @@
+use mathlib.Core.Path.{_≡_}
+use lib.ListN.{length}
+use Rattle.board.proofs.SettleLaws.{finds, spot-held, spot-free, spot-full}
 use borrow.Author.Needs.{needs}
 use Rattle.board.proofs.settling.spot_of.Statement.{statement}
 use Rattle.board.proofs.settling.spot_of.Tie as tie
@@ -25,7 +28,7 @@ object-requires c κs = search needs
 
 -- src/settling.rt:91:9
 returns : tie.Need-returns
-returns c = ?
+returns c = let long : length (c .before .before .before .before .before .args .t1) ≡ 64 = search needs in finds _ _ long (search (spot-held, long))
 
 -- src/settling.rt:93:9
 find-empty-requires : tie.Need-find-empty-requires
@@ -33,11 +36,11 @@ find-empty-requires c κs = search needs
 
 -- src/settling.rt:95:9
 returns-2 : tie.Need-returns-2
-returns-2 c = ?
+returns-2 c = let long : length (c .before .before .before .before .before .args .t1) ≡ 64 = search needs in finds _ _ long (search (spot-free, long))
 
 -- src/settling.rt:83:1
 returns-3 : tie.Need-returns-3
-returns-3 c = ?
+returns-3 c = let long : length (c .before .before .before .before .before .args .t1) ≡ 64 = search needs in finds _ _ long (search (spot-full, long))
 
 pub spot-of-spec : {M : Type 1} → statement M
 spot-of-spec =
