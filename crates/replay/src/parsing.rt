@@ -1,4 +1,5 @@
 // The parts of a command. Each function looks at a place of the script and answers with the place behind what it found.
+ghost use mathlib.Core.Path.{_≡_};
 ghost use Prim.Native.Nat.{_≤_};
 ghost use lib.ListN.{length};
 use lists::both;
@@ -47,43 +48,47 @@ pub(crate) fn skip(script: &[u8], at: usize, byte: u8) -> Skipped
     }
 }
 
-// The value with one figure more; past the greatest number it stays where it is.
-fn grown(value: u64, x: u8) -> u64 {
-    if MOST < value {
-        return value;
-    }
-    value * 10 + (x - b'0') as u64
-}
-
-// One or more decimal figures.
-fn number_at(script: &[u8], at: usize) -> Number {
-    let mut value = 0;
+// The place of the first byte from there on that is no figure, or the script's length.
+fn figures_end(script: &[u8], at: usize) -> usize
+    requires { ⌜ at ≤ length (now script) ⌝ }
+    ensures { λ r. ⌜ (at ≤ r) × (r ≤ length (now (script .entry))) ⌝ }
+{
     let mut i = at;
     while i < script.len() {
         let x = script[i];
         if x < b'0' {
-            break;
+            return i;
         }
         if b'9' < x {
-            break;
+            return i;
         }
-        value = grown(value, x);
         i += 1;
     }
-    if i == at {
-        return none_at(i);
-    }
-    if MOST < value {
-        return none_at(i);
-    }
-    Number {
-        formed: true,
-        value: value as u32,
-        next: i,
-    }
+    i
 }
 
-fn none_at(next: usize) -> Number {
+// The value with one figure more; past the greatest number it stays where it is. A figure's value is its last four bits.
+fn grown(value: u64, figure: u8) -> u64 {
+    if MOST < value {
+        return value;
+    }
+    value * 10 + (figure % 16) as u64
+}
+
+// The value of figures; of more than the greatest number, any that is past it.
+fn value_of(figures: &[u8]) -> u64 {
+    let mut value = 0;
+    let mut i = 0;
+    while i < figures.len() {
+        value = grown(value, figures[i]);
+        i += 1;
+    }
+    value
+}
+
+fn no_number(next: usize) -> Number
+    ensures { λ r. ⌜ r .next ≡ next ⌝ }
+{
     Number {
         formed: false,
         value: 0,
@@ -91,18 +96,44 @@ fn none_at(next: usize) -> Number {
     }
 }
 
+// One or more figures.
+fn number_at(script: &[u8], at: usize) -> Number
+    requires { ⌜ at ≤ length (now script) ⌝ }
+    ensures { λ r. ⌜ (at ≤ r .next) × (r .next ≤ length (now (script .entry))) ⌝ }
+{
+    let end = figures_end(script, at);
+    if end == at {
+        return no_number(end);
+    }
+    let value = value_of(&script[at..end]);
+    if MOST < value {
+        return no_number(end);
+    }
+    Number {
+        formed: true,
+        value: value as u32,
+        next: end,
+    }
+}
+
 // A space, and a number behind it.
-fn field_at(script: &[u8], at: usize) -> Number {
+fn field_at(script: &[u8], at: usize) -> Number
+    requires { ⌜ at ≤ length (now script) ⌝ }
+    ensures { λ r. ⌜ (at ≤ r .next) × (r .next ≤ length (now (script .entry))) ⌝ }
+{
     let space = skip(script, at, b' ');
     let next = space.next;
     if space.found {
         return number_at(script, next);
     }
-    none_at(next)
+    no_number(next)
 }
 
 // What stands behind a command's letter: a space and a number, twice, and LF.
-pub(crate) fn head_at(script: &[u8], at: usize) -> Head {
+pub(crate) fn head_at(script: &[u8], at: usize) -> Head
+    requires { ⌜ at ≤ length (now script) ⌝ }
+    ensures { λ r. ⌜ (at ≤ r .next) × (r .next ≤ length (now (script .entry))) ⌝ }
+{
     let a = field_at(script, at);
     let past = a.next;
     let b = field_at(script, past);

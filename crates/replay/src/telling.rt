@@ -1,5 +1,5 @@
 // The lines that are printed, each by one call.
-ghost use Prim.Native.Nat.{_≤_, _<_};
+ghost use Prim.Native.Nat.{_≤_};
 ghost use lib.ListN.{length};
 use pens::put;
 use pens::put_all;
@@ -64,16 +64,15 @@ fn put_hex(line: &mut [u8], at: usize, bytes: &[u8]) -> usize
     while i < bytes.len() {
         let x = bytes[i];
         next = put(line, next, glyph(x / 16));
-        next = put(line, next, glyph(x % 16));
+        next = put(line, next, glyph(x));
         i += 1;
     }
     next
 }
 
-// A figure below 16, as its character in lower case.
-fn glyph(n: u8) -> u8
-    requires { ⌜ n < 16 ⌝ }
-{
+// The last four bits as a figure, in lower case.
+fn glyph(x: u8) -> u8 {
+    let n = x % 16;
     if n < 10 {
         return n + 48;
     }
