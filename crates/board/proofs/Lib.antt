@@ -3,3 +3,7 @@ pub mod PlaceLaws
 pub mod BoardLaws
 pub mod ClaimLaws
 pub mod SettleLaws
+pub mod DistinctLaws
+pub mod Invariant
+pub mod Determined
+pub mod PostLaws

@@ -8,17 +8,18 @@ use native.Mathlib.Omega.{arith}
 use native.Mathlib.Nat.{not-suc-le-zero, le-of-suc-le-suc}
 use lib.Dec.{eqb, ltb, leb}
 use lib.ListN.{length, take}
-use borrow.Author.Tests.{eq-eqb, ne-eqb, eqb-true, lt-ltb}
+use borrow.Author.Tests.{eq-eqb, ne-eqb, eqb-true, lt-ltb, le-leb}
 use Rattle.lists.specs.Choice.{both}
 use Rattle.lists.specs.Lists.{indexOf, allOf}
 use Rattle.lists.specs.Base.{worth, worthAfter, places}
-use Rattle.lists.proofs.Choice.{by, clash, both-left, both-right, both-true, both-four, either-cases}
+use Rattle.lists.proofs.Choice.{both-left, both-right, both-true, both-three, both-four, either-cases}
 use Rattle.lists.proofs.Lists.{all-weaken}
 use Rattle.lists.proofs.Base.{places-worth}
 use Rattle.words.specs.Bytes.{between, letter, digit}
 use Rattle.words.proofs.Ranges.{between-low, between-high}
 use Rattle.figures.specs.Letters.{inLetters}
 use Rattle.figures.specs.Figures.{inFigures}
+use Rattle.figures.proofs.FigureLaws.{length-inFigures, inFigures-digits}
 use Rattle.figures.proofs.Kept.{reads-spelled}
 use Rattle.headings.specs.Sequences.{characters, goodSequence, sequenceOf, spellSequence}
 use Rattle.headings.specs.declared.Sequence.{Sequence}
@@ -105,3 +106,71 @@ held-good n g = rw (g, reads-spelled sequence-reads (unpadded n) g)
 pub held-bad : (n : ℕ) → goodSequence (sequenceOf (unpadded n)) ≡ false → false ≡ heldSequence n
 unfolding heldSequence
 held-bad n g = rw g
+
+-- Padding undone: three characters, none of them a space, are found again.
+
+-- the characters of a sequence lie between `0` and `Z`
+abbrev character : ℕ → Bool
+character x = between 48 90 x
+
+character-of-digit : (x : ℕ) → digit x ≡ true → character x ≡ true
+character-of-digit x t = both-true (le-leb 48 x (between-low 48 57 x t)) (le-leb x 90 (omega (arith, between-high 48 57 x t)))
+
+character-of-letter : (x : ℕ) → letter x ≡ true → character x ≡ true
+character-of-letter x t = both-true (le-leb 48 x (omega (arith, between-low 65 90 x t))) (le-leb x 90 (between-high 65 90 x t))
+
+no-space : (x : ℕ) → character x ≡ true → eqb 32 x ≡ false
+no-space x t = ne-eqb 32 x (λ e. absurd (omega (arith, e, between-low 48 90 x t)))
+
+one-byte : (x : ℕ) → character x ≡ true → ltb x 256 ≡ true
+one-byte x t = lt-ltb x 256 (omega (arith, between-high 48 90 x t))
+
+unpad-nothing : unpadded (padded []) ≡ []
+unfolding unpadded padded indexOf places worthAfter
+unpad-nothing = refl
+
+unpad-word : (w : List ℕ) → length w ≤ 3 → allOf character w ≡ true → unpadded (padded w) ≡ w
+unfolding unpadded padded indexOf allOf
+unpad-word [] h t = unpad-nothing
+unpad-word (a ∷ []) h t =
+    let p = both-left (character a) true t in
+    rw (places-worth 256 (a ∷ 32 ∷ 32 ∷ []) (both-true (one-byte a p) refl), no-space a p)
+unpad-word (a ∷ b ∷ []) h t =
+    let u = both-three (character a) (character b) true t in
+    rw (places-worth 256 (a ∷ b ∷ 32 ∷ []) (both-true (one-byte a (u .0)) (both-true (one-byte b (u .1)) refl)), no-space a (u .0), no-space b (u .1))
+unpad-word (a ∷ b ∷ c ∷ []) h t =
+    let u = both-four (character a) (character b) (character c) true t in
+    rw (places-worth 256 (a ∷ b ∷ c ∷ []) (both-true (one-byte a (u .0)) (both-true (one-byte b (u .1)) (both-true (one-byte c (u .2)) refl))), no-space a (u .0), no-space b (u .1), no-space c (u .2))
+unpad-word (a ∷ b ∷ c ∷ d ∷ w) h t = absurd (not-suc-le-zero (le-of-suc-le-suc (le-of-suc-le-suc (le-of-suc-le-suc h))))
+
+figures-characters : (k n : ℕ) → allOf character (inFigures k n) ≡ true
+figures-characters k n = all-weaken digit character character-of-digit (inFigures k n) (inFigures-digits k n)
+
+-- the text of a good sequence: at most three characters
+spelled : (s : Sequence) → goodSequence s ≡ true → (length (spellSequence s) ≤ 3) × (allOf character (spellSequence s) ≡ true)
+unfolding goodSequence spellSequence allOf
+spelled s g =
+    either-cases (both (eqb (s .letter) 0) (between 1 3 (s .digits))) (both (letter (s .letter)) (between 1 2 (s .digits))) (both-left (characters s) _ g)
+    (λ e.
+    let z = both-left (eqb (s .letter) 0) (between 1 3 (s .digits)) e in
+    rw z (omega (arith, length-inFigures (s .digits) (s .number), between-high 1 3 (s .digits) (both-right (eqb (s .letter) 0) (between 1 3 (s .digits)) e)), figures-characters (s .digits) (s .number)))
+    (λ e.
+    let l = both-left (letter (s .letter)) (between 1 2 (s .digits)) e in
+    let z : eqb (s .letter) 0 ≡ false = ne-eqb (s .letter) 0 (λ q. absurd (omega (arith, q, between-low 65 90 (s .letter) l))) in
+    rw z (
+      omega (arith, length-inFigures (s .digits) (s .number), between-high 1 2 (s .digits) (both-right (letter (s .letter)) (between 1 2 (s .digits)) e)),
+      both-true (character-of-letter (s .letter) l) (figures-characters (s .digits) (s .number)),
+    ))
+
+-- the characters of a padded sequence are those of the sequence, and so it is held as one; equal numbers are equal sequences as written
+pub unpad-padded : (s : Sequence) → goodSequence s ≡ true → unpadded (paddedOf s) ≡ spellSequence s
+unpad-padded s g = unpad-word (spellSequence s) (spelled s g .0) (spelled s g .1)
+
+pub padded-held : (s : Sequence) → goodSequence s ≡ true → heldSequence (paddedOf s) ≡ true
+unfolding heldSequence
+padded-held s g = rw (unpad-padded s g, sequence-reads .forth s g, g, eq-eqb (paddedOf s) (paddedOf s) refl)
+
+pub padded-only : (s t : Sequence) → goodSequence s ≡ true → goodSequence t ≡ true → paddedOf s ≡ paddedOf t → s ≡ t
+padded-only s t g h e =
+    let same : spellSequence s ≡ spellSequence t = sym (unpad-padded s g) ∙ (ap unpadded e ∙ unpad-padded t h) in
+    sym (sequence-reads .forth s g) ∙ (ap sequenceOf same ∙ sequence-reads .forth t h)

@@ -1,13 +1,13 @@
 -- The tests of a place, in the shapes that the code's returns ask for.
 -- Assumes nothing.
 use mathlib.Core.Bool.{Bool, true, false, not}
-use mathlib.Core.Path.{_≡_, sym, _∙_}
+use mathlib.Core.Path.{_≡_, refl, sym, _∙_}
 use Prim.Native.Nat.{ℕ, _+_, _-_, _≤_, _<_}
 use native.Mathlib.Omega.{arith}
 use lib.Dec.{leb, ltb, eqb}
 use borrow.Author.Tests.{lt-ltb, le-ltb, le-leb, lt-leb, leb-true, leb-false}
 use Rattle.lists.specs.Choice.{pick, both, either}
-use Rattle.lists.proofs.Choice.{by, both-right}
+use Rattle.lists.proofs.Choice.{by, both-false-right}
 use Rattle.figures.specs.Letters.{goodLetters}
 use Rattle.headings.specs.Headings.{typeWords, goodType, goodCorrection}
 use Rattle.calendar.specs.Gregorian.{never}
@@ -16,10 +16,6 @@ use Rattle.board.specs.Padded.{heldSequence}
 use Rattle.board.specs.Places.{sameIdentity, noIdentity, noPlace, emptyPlace, heldIdentity, heldCorrection, heldPlace, goodPlace}
 use Rattle.board.specs.declared.Identity.{Identity}
 use Rattle.board.specs.declared.Place.{Place}
-
-both-wrong : (b : Bool) → both b false ≡ false
-both-wrong true = cc
-both-wrong false = cc
 
 -- the length of a period, by what is left of its end
 pub short-enough : (start end limit : ℕ) → start < end → leb (end - start) limit ≡ leb end (start + limit)
@@ -31,7 +27,7 @@ short-enough start end limit h =
 pub ends-early : (clock : ℕ) (i : Identity) → i .end ≤ i .start → false ≡ heldIdentity clock i
 unfolding heldIdentity
 ends-early clock i h =
-    rw (le-ltb (i .start) (i .end) h) (sym (both-wrong (both (goodType (i .kind)) (both (goodLetters 4 (i .area)) (heldSequence (i .sequence))))))
+    rw (le-ltb (i .start) (i .end) h) (sym (both-false-right (both (goodType (i .kind)) (both (goodLetters 4 (i .area)) (heldSequence (i .sequence)))) refl))
 
 pub held-identity : (clock : ℕ) (i : Identity) {kind letters sequence formed whole last rest r : Bool} {limit : ℕ}
     → kind ≡ both (leb 2 (i .kind)) (leb (i .kind) 3) → letters ≡ goodLetters 4 (i .area) → sequence ≡ heldSequence (i .sequence)

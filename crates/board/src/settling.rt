@@ -53,14 +53,14 @@ fn find(i: Identity, places: [Place; 64]) -> usize
 fn find_empty(places: [Place; 64]) -> usize
     ensures { λ r. ⌜ r ≡ indexOf emptyPlace places ⌝ }
 {
-    let mut k = 0;
-    while k < 64 {
-        if empty_place(places[k]) {
-            return k;
+    let mut free = 0;
+    while free < 64 {
+        if empty_place(places[free]) {
+            return free;
         }
-        k += 1;
+        free += 1;
     }
-    k
+    free
 }
 
 // What a held place has against one of the same identity: 22, 21, or 0 for nothing.

@@ -1,1 +1,5 @@
 pub mod OrderLaws
+pub mod RowLaws
+pub mod Loops
+pub mod ListLaws
+pub mod Determined

@@ -17,10 +17,10 @@ use Rattle.board.proofs.settling.find_empty.Lts as lts
 use Rattle.board.proofs.places.empty_place.Reads as empty-place-reads
 
 abbrev Inv-loop : tie.InvT-loop
-Inv-loop places k₀ k = (length places ≡ 64) × (k ≤ 64) × (indexOf emptyPlace places ≡ indexFrom emptyPlace k places)
+Inv-loop places free₀ free = (length places ≡ 64) × (free ≤ 64) × (indexOf emptyPlace places ≡ indexFrom emptyPlace free places)
 
 abbrev μ-loop : tie.MeasureT-loop
-μ-loop places k₀ k = 64 - k
+μ-loop places free₀ free = 64 - free
 
 -- src/settling.rt:57:5
 loop-holds : tie.Need-loop-holds Inv-loop μ-loop
@@ -40,11 +40,11 @@ empty-place-requires c κs = tt
 
 -- src/settling.rt:59:13
 returns : tie.Need-returns Inv-loop μ-loop
-returns c = sym (c .before .before .before .before .loop .inv .2 ∙ from-here emptyPlace (c .before .before .before .before .before .args .t1) (c .before .before .before .before .loop .k) noPlace (omega arith) (sym (c .before .empty-place .ensures) ∙ c .if1 .taken))
+returns c = sym (c .before .before .before .before .loop .inv .2 ∙ from-here emptyPlace (c .before .before .before .before .before .args .t1) (c .before .before .before .before .loop .free) noPlace (omega arith) (sym (c .before .empty-place .ensures) ∙ c .if1 .taken))
 
 -- src/settling.rt:61:9
-add-k : tie.Need-add-k Inv-loop μ-loop
-add-k c = omega arith
+add-free : tie.Need-add-free Inv-loop μ-loop
+add-free c = omega arith
 
 -- src/settling.rt:57:5
 loop-less : tie.Need-loop-less Inv-loop μ-loop
@@ -52,11 +52,11 @@ loop-less c = omega arith
 
 -- src/settling.rt:57:5
 loop-again : tie.Need-loop-again Inv-loop μ-loop
-loop-again c = (search needs, omega arith, c .before .before .before .before .loop .inv .2 ∙ from-past emptyPlace (c .before .before .before .before .before .args .t1) (c .before .before .before .before .loop .k) noPlace (omega arith) (sym (c .before .empty-place .ensures) ∙ c .if1 .left))
+loop-again c = (search needs, omega arith, c .before .before .before .before .loop .inv .2 ∙ from-past emptyPlace (c .before .before .before .before .before .args .t1) (c .before .before .before .before .loop .free) noPlace (omega arith) (sym (c .before .empty-place .ensures) ∙ c .if1 .left))
 
 -- src/settling.rt:53:1
 returns-2 : tie.Need-returns-2 Inv-loop μ-loop
-returns-2 c = sym (c .before .loop .inv .2 ∙ from-none emptyPlace (c .before .before .args .t1) (c .before .loop .k) (omega arith))
+returns-2 c = sym (c .before .loop .inv .2 ∙ from-none emptyPlace (c .before .before .args .t1) (c .before .loop .free) (omega arith))
 
 pub find-empty-spec : {M : Type 1} → statement M
 find-empty-spec =
@@ -69,7 +69,7 @@ find-empty-spec =
     array-copy-out-empty-place
     empty-place-requires
     returns
-    add-k
+    add-free
     loop-less
     loop-again
     returns-2)

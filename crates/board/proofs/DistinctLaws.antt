@@ -1,0 +1,88 @@
+-- No identity is held twice: what that says of two places, and that it stays so where a place is set.
+-- Assumes nothing.
+use mathlib.Core.Bool.{Bool, true, false, not}
+use mathlib.Core.List.{List, [], _∷_, map}
+use mathlib.Core.Path.{_≡_, refl, sym, ap, _∙_}
+use Prim.Native.Nat.{ℕ, zero, suc, _+_, _≤_, _<_, suc-le-suc, zero-le}
+use native.Mathlib.Nat.{not-suc-le-zero, le-of-suc-le-suc}
+use native.Mathlib.Omega.{arith}
+use lib.Dec.{leb, eqb}
+use lib.ListN.{length, getD, set}
+use borrow.Author.Tests.{eq-eqb, eqb-true, not-true}
+use Rattle.lists.specs.Choice.{pick, both, either}
+use Rattle.lists.specs.Lists.{allOf}
+use Rattle.lists.proofs.Choice.{by, clash, both-left, both-right, both-true, both-five, either-left, either-right, either-cases}
+use Rattle.lists.proofs.Lists.{all-at}
+use Rattle.board.specs.Places.{sameIdentity, noIdentity, noPlace, emptyPlace}
+use Rattle.board.specs.Boards.{differs, distinct}
+use Rattle.board.specs.declared.Identity.{Identity}
+use Rattle.board.specs.declared.Place.{Place}
+
+-- The same identity is an equal one.
+
+pub same-identity-is : (a b : Identity) → sameIdentity a b ≡ true → a ≡ b
+unfolding sameIdentity
+same-identity-is a b t =
+    let u = both-five (eqb (a .kind) (b .kind)) (eqb (a .area) (b .area)) (eqb (a .sequence) (b .sequence)) (eqb (a .start) (b .start)) (eqb (a .end) (b .end)) t in
+    let k = eqb-true (a .kind) (b .kind) (u .0) in
+    let r = eqb-true (a .area) (b .area) (u .1) in
+    let s = eqb-true (a .sequence) (b .sequence) (u .2) in
+    let f = eqb-true (a .start) (b .start) (u .3) in
+    let e = eqb-true (a .end) (b .end) (u .4) in
+    λ i. record { kind = k i; area = r i; sequence = s i; start = f i; end = e i }
+
+pub same-identity-refl : (a : Identity) → sameIdentity a a ≡ true
+unfolding sameIdentity
+same-identity-refl a =
+    both-true (eq-eqb (a .kind) (a .kind) refl)
+    (both-true (eq-eqb (a .area) (a .area) refl)
+    (both-true (eq-eqb (a .sequence) (a .sequence) refl) (both-true (eq-eqb (a .start) (a .start) refl) (eq-eqb (a .end) (a .end) refl))))
+
+pub same-identity-swap : (a b : Identity) → sameIdentity a b ≡ false → sameIdentity b a ≡ false
+same-identity-swap a b f =
+    by (sameIdentity b a)
+    (λ t. clash (sameIdentity a b) (rw (same-identity-is b a t) (same-identity-refl a)) f)
+    (λ g. g)
+
+-- Where each element passes by its place, all pass.
+
+pub all-by : {A : Type 0} (f : A → Bool) (xs : List A) (d : A) → ((j : ℕ) → j < length xs → f (getD xs j d) ≡ true) → allOf f xs ≡ true
+unfolding allOf
+all-by f [] d h = refl
+all-by f (x ∷ xs) d h = both-true (h 0 (suc-le-suc zero-le)) (all-by f xs d (λ j k. h (suc j) (suc-le-suc k)))
+
+pub all-set : {A : Type 0} (f : A → Bool) (xs : List A) (k : ℕ) (y : A) → allOf f xs ≡ true → f y ≡ true → allOf f (set xs k y) ≡ true
+unfolding allOf
+all-set f [] k y t e = refl
+all-set f (x ∷ xs) zero y t e = both-true e (both-right (f x) (allOf f xs) t)
+all-set f (x ∷ xs) (suc k) y t e = both-true (both-left (f x) (allOf f xs) t) (all-set f xs k y (both-right (f x) (allOf f xs) t) e)
+
+-- Of two places the later one has another identity than a held earlier one.
+pub distinct-two : (ps : List Place) → distinct ps ≡ true → (k j : ℕ) → k < j → j < length ps → emptyPlace (getD ps k noPlace) ≡ false
+    → sameIdentity (getD ps k noPlace .identity) (getD ps j noPlace .identity) ≡ false
+unfolding distinct
+distinct-two [] t k j h l e = absurd (not-suc-le-zero l)
+distinct-two (p ∷ ps) t zero zero h l e = absurd (not-suc-le-zero h)
+distinct-two (p ∷ ps) t zero (suc j) h l e =
+    either-cases (emptyPlace p) (allOf (differs p) ps) (both-left (either (emptyPlace p) (allOf (differs p) ps)) (distinct ps) t)
+    (λ m. clash (emptyPlace p) m e)
+    (λ a. not-true _ (all-at (differs p) ps noPlace a j (le-of-suc-le-suc l)))
+distinct-two (p ∷ ps) t (suc k) zero h l e = absurd (not-suc-le-zero h)
+distinct-two (p ∷ ps) t (suc k) (suc j) h l e =
+    distinct-two ps (both-right (either (emptyPlace p) (allOf (differs p) ps)) (distinct ps) t) k j (le-of-suc-le-suc h) (le-of-suc-le-suc l) e
+
+-- A place is set that no other place has the identity of.
+pub distinct-set : (ps : List Place) (k : ℕ) (p : Place) → distinct ps ≡ true
+    → ((j : ℕ) → j < length ps → (j ≡ k → ⊥) → sameIdentity (p .identity) (getD ps j noPlace .identity) ≡ false) → distinct (set ps k p) ≡ true
+unfolding distinct
+distinct-set [] k p t h = t
+distinct-set (q ∷ qs) zero p t h =
+    both-true
+    (either-right (emptyPlace p) (all-by (differs p) qs noPlace (λ j l. ap not (h (suc j) (suc-le-suc l) (λ e. absurd (omega (arith, e)))))))
+    (both-right (either (emptyPlace q) (allOf (differs q) qs)) (distinct qs) t)
+distinct-set (q ∷ qs) (suc k) p t h =
+    both-true
+    (either-cases (emptyPlace q) (allOf (differs q) qs) (both-left (either (emptyPlace q) (allOf (differs q) qs)) (distinct qs) t)
+    (λ m. either-left (allOf (differs q) (set qs k p)) m)
+    (λ a. either-right (emptyPlace q) (all-set (differs q) qs k p a (ap not (same-identity-swap (p .identity) (q .identity) (h 0 (suc-le-suc zero-le) (λ e. absurd (omega (arith, e)))))))))
+    (distinct-set qs k p (both-right (either (emptyPlace q) (allOf (differs q) qs)) (distinct qs) t) (λ j l n. h (suc j) (suc-le-suc l) (λ e. n (omega (arith, e)))))

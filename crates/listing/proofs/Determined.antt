@@ -1,0 +1,12 @@
+-- The public contract of this crate settles reply and buffer: two outcomes that it allows on the same arguments are equal.
+-- Assumes nothing.
+use mathlib.Core.Path.{_≡_, sym, _∙_}
+use Rattle.lists.proofs.Determined.{Settles}
+use Rattle.listing.specs.Listings.{told}
+use Rattle.listing.proofs.list.Kinds as list-kinds
+use Rattle.listing.proofs.list.Reads as list-reads
+
+pub list-settles : Settles 1 list-kinds.ps list-kinds.r list-reads.Learnt
+list-settles κs a r s x y p q =
+    let same : told r (x .1 .1 .0) ≡ told s (y .1 .1 .0) = p ∙ sym q in
+    (λ i. record { answer = same i .answer; count = same i .count }, λ i. (tt, (tt, (same i .buffer, tt))))

@@ -1,0 +1,122 @@
+-- The reply of a listing: a refusal counts nothing and leaves the buffer as it was, and a listing counts its own bytes, which fit in the
+-- buffer. What is left for `list`: one law for each reply. And the paper's sample, listed.
+-- Assumes nothing.
+use mathlib.Core.Bool.{true, false}
+use mathlib.Core.List.{List, [], _∷_, _++_}
+use mathlib.Core.Path.{_≡_, refl, subst, sym, _∙_}
+use Prim.Native.Nat.{ℕ, _+_, _*_, _≤_, _<_}
+use native.Mathlib.Omega.{arith}
+use lib.Dec.{ltb, eqb}
+use lib.ListN.{length, drop}
+use borrow.Author.Tests.{ltb-false, lt-ltb, le-ltb, eqb-false, eq-eqb, ne-eqb}
+use Rattle.lists.specs.Base.{places}
+use Rattle.lists.proofs.Choice.{by}
+use Rattle.board.specs.Boards.{refusalAt}
+use Rattle.board.specs.declared.Board.{Board}
+use Rattle.board.specs.declared.Place.{Place}
+use Rattle.listing.specs.Rows.{inForce, selected, inserted, sortedAfter, rowsOf}
+use Rattle.listing.specs.Holding.{rowsIn, HoldsRows}
+use Rattle.listing.specs.Listings.{timeRecord, messageRecord, records, listingOf, listOf, told, Lists}
+use Rattle.listing.specs.declared.Listed.{Listed}
+use Rattle.listing.specs.declared.rows.Rows.{Rows}
+use Rattle.listing.proofs.RowLaws.{listing-length}
+
+-- What the definition says.
+
+module _ (b : Board) (time : ℕ) (buffer : List ℕ) where
+  pub refused-untouched : (listOf b time buffer .answer ≡ 0 → ⊥) → (listOf b time buffer .count ≡ 0) × (listOf b time buffer .buffer ≡ buffer)
+  unfolding listOf
+  refused-untouched n =
+      by (eqb (refusalAt b time) 0) (λ (z : eqb (refusalAt b time) 0 ≡ true). by (ltb (length buffer) (length (listingOf time (b .places))))
+      (λ (l : ltb (length buffer) (length (listingOf time (b .places))) ≡ true). rw (z, l) (refl, refl))
+      (λ (l : ltb (length buffer) (length (listingOf time (b .places))) ≡ false). absurd (n (rw (z, l)))))
+      (λ (z : eqb (refusalAt b time) 0 ≡ false). rw z (refl, refl))
+
+  pub listed-then : listOf b time buffer .answer ≡ 0
+      → (listOf b time buffer .count ≡ length (listingOf time (b .places)))
+      × (listOf b time buffer .buffer ≡ listingOf time (b .places) ++ drop (length (listingOf time (b .places))) buffer)
+  unfolding listOf
+  listed-then a =
+      by (eqb (refusalAt b time) 0) (λ (z : eqb (refusalAt b time) 0 ≡ true). by (ltb (length buffer) (length (listingOf time (b .places))))
+      (λ (l : ltb (length buffer) (length (listingOf time (b .places))) ≡ true). absurd (never (rw (z, l) at a)))
+      (λ (l : ltb (length buffer) (length (listingOf time (b .places))) ≡ false). rw (z, l) (refl, refl)))
+      (λ (z : eqb (refusalAt b time) 0 ≡ false). absurd (eqb-false (refusalAt b time) 0 z (rw z at a)))
+    where
+      never : _≡_ {A = ℕ} 14 0 → ⊥
+      never e = omega arith
+
+  pub count-is : listOf b time buffer .answer ≡ 0 → listOf b time buffer .count ≡ length (listingOf time (b .places))
+  count-is a = listed-then a .0
+
+  pub within : listOf b time buffer .count ≤ length buffer
+  unfolding listOf
+  within =
+      by (eqb (refusalAt b time) 0) (λ (z : eqb (refusalAt b time) 0 ≡ true). by (ltb (length buffer) (length (listingOf time (b .places))))
+      (λ (l : ltb (length buffer) (length (listingOf time (b .places))) ≡ true). rw (z, l) (omega arith))
+      (λ (l : ltb (length buffer) (length (listingOf time (b .places))) ≡ false). rw (z, l) (ltb-false (length buffer) (length (listingOf time (b .places))) l)))
+      (λ (z : eqb (refusalAt b time) 0 ≡ false). rw z (omega arith))
+
+-- The replies.
+
+told-is : (r : Listed) (buffer : List ℕ) (answer count : ℕ) → r .answer ≡ answer → r .count ≡ count
+    → told r buffer ≡ record { answer = answer; count = count; buffer = buffer }
+told-is r buffer answer count a k = λ i. record { answer = a i; count = k i; buffer = buffer }
+
+pub board-refused : (b : Board) (time : ℕ) (r : Listed) (buffer : List ℕ) (number : ℕ) → number ≡ refusalAt b time → (number ≡ 0 → ⊥)
+    → (r .answer ≡ number) × (r .count ≡ 0) → told r buffer ≡ listOf b time buffer
+unfolding listOf
+board-refused b time r buffer number e n w =
+    rw (ne-eqb (refusalAt b time) 0 (λ (z : refusalAt b time ≡ 0). n (e ∙ z))) (told-is r buffer (refusalAt b time) 0 (w .0 ∙ e) (w .1))
+
+-- how long the listing is, by the rows that were counted
+counted-bytes : (time : ℕ) (ps : List Place) (rows : Rows) → HoldsRows (rowsOf time ps) rows → length (listingOf time ps) ≡ 5 + rows .count * 17
+counted-bytes time ps rows held = omega (arith, listing-length time ps, held .counted)
+
+pub no-room : (b : Board) (time : ℕ) (r : Listed) (buffer : List ℕ) (rows : Rows) (number : ℕ) → number ≡ refusalAt b time → number ≡ 0
+    → HoldsRows (rowsOf time (b .places)) rows → length buffer < 5 + rows .count * 17 → (r .answer ≡ 14) × (r .count ≡ 0)
+    → told r buffer ≡ listOf b time buffer
+unfolding listOf
+no-room b time r buffer rows number e z held h w =
+    let long : length buffer < length (listingOf time (b .places)) = omega (arith, counted-bytes time (b .places) rows held) in
+    rw (eq-eqb (refusalAt b time) 0 (sym e ∙ z), lt-ltb (length buffer) (length (listingOf time (b .places))) long) (told-is r buffer 14 0 (w .0) (w .1))
+
+-- all rows are on the page
+listed-all : (time : ℕ) (ps : List Place) {page after : List ℕ} {n : ℕ} → Lists time (rowsOf time ps) page n after
+    → (n ≡ length (listingOf time ps)) × (after ≡ listingOf time ps ++ drop (length (listingOf time ps)) page)
+unfolding listingOf
+listed-all time ps l = (l .counted, l .page-then)
+
+pub all-listed : (b : Board) (time : ℕ) (buffer : List ℕ) (rows : Rows) (number : ℕ) {count : ℕ} {after : List ℕ} → number ≡ refusalAt b time
+    → number ≡ 0 → HoldsRows (rowsOf time (b .places)) rows → 5 + rows .count * 17 ≤ length buffer → Lists time (rowsIn rows) buffer count after
+    → told (record { answer = 0; count = count }) after ≡ listOf b time buffer
+unfolding listOf
+all-listed b time buffer rows number {count} {after} e z held h l =
+    let fits : length (listingOf time (b .places)) ≤ length buffer = omega (arith, counted-bytes time (b .places) rows held) in
+    let all = listed-all time (b .places) (subst (λ (x : List Place). Lists time x buffer count after) (held .says) l) in
+    rw (eq-eqb (refusalAt b time) 0 (sym e ∙ z), le-ltb (length buffer) (length (listingOf time (b .places))) fits)
+    (λ i. record { answer = 0; count = all .0 i; buffer = all .1 i })
+
+-- 01, "Sample posted then; listed at that minute, in hex: `01 00C0FE5E 02 51424242 312020 20 00C0FE5E 00C0FF4E`. At 12,648,269 one message; at
+-- 12,648,270 only kind 1."
+
+abbrev sample : Place
+sample =
+    record {
+      identity = record { kind = 2; area = 1363296834; sequence = 3219488; start = 12648030; end = 12648270 };
+      correction = 0;
+      marked = false;
+    }
+
+pub sample-listed : listingOf 12648030 (sample ∷ [])
+    ≡ (1 ∷ 0 ∷ 192 ∷ 254 ∷ 94 ∷ [])
+    ++ (2 ∷ 81 ∷ 66 ∷ 66 ∷ 66 ∷ 49 ∷ 32 ∷ 32 ∷ 32 ∷ 0 ∷ 192 ∷ 254 ∷ 94 ∷ 0 ∷ 192 ∷ 255 ∷ 78 ∷ [])
+unfolding listingOf rowsOf selected inForce sortedAfter inserted records messageRecord timeRecord places
+sample-listed = refl
+
+pub sample-last-minute : length (rowsOf 12648269 (sample ∷ [])) ≡ 1
+unfolding rowsOf selected inForce sortedAfter inserted
+sample-last-minute = refl
+
+pub sample-ended : listingOf 12648270 (sample ∷ []) ≡ timeRecord 12648270
+unfolding listingOf rowsOf selected inForce sortedAfter records timeRecord places
+sample-ended = refl
