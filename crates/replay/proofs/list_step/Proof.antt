@@ -1,5 +1,6 @@
 -- `list_step` lends as many bytes as the command says, at most 2,000, and goes on behind it. Assumes nothing.
 use Rattle.io.proofs.Counting.{front}
+use native.Mathlib.Omega.{arith}
 use borrow.Author.Needs.{needs}
 use Rattle.replay.proofs.list_step.Statement.{statement}
 use Rattle.replay.proofs.list_step.Tie as tie
@@ -17,7 +18,7 @@ array-borrow-prefix-buffer : tie.Need-array-borrow-prefix-buffer
 array-borrow-prefix-buffer c = search needs
 
 slice-aggregate-list-into : tie.Need-slice-aggregate-list-into
-slice-aggregate-list-into c = front _ _ ?
+slice-aggregate-list-into c = front _ _ (omega arith)
 
 list-into-requires : tie.Need-list-into-requires
 list-into-requires c κs = search needs

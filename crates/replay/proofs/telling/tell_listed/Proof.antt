@@ -35,7 +35,7 @@ slice-aggregate-put-hex : tie.Need-slice-aggregate-put-hex
 slice-aggregate-put-hex c = search needs
 
 put-hex-requires : tie.Need-put-hex-requires
-put-hex-requires c κs = inside (c .before .before .before .put .ensures) ?
+put-hex-requires c κs = inside (c .before .before .put .ensures) (search needs)
 
 slice-aggregate-print-2 : tie.Need-slice-aggregate-print-2
 slice-aggregate-print-2 c = search needs
