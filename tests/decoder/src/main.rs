@@ -1,11 +1,17 @@
 //! decoder [read] | generate SEED COUNT | tables SEED COUNT FOLDER | judge | compare SEED COUNT PROGRAM [ARGUMENT...]
+//! | replay | script SEED INDEX | boards SEED COUNT PROGRAM [ARGUMENT...]
 
+mod boards;
 mod compare;
 mod decode;
 mod generate;
 mod good;
 mod grammar;
+mod history;
+mod instants;
 mod rng;
+mod script;
+mod scripts;
 mod shapes;
 mod table;
 #[cfg(test)]
@@ -40,11 +46,26 @@ fn main() {
                 exit(1);
             }
         }
+        // Stands in for the program `replay`.
+        ["replay"] => {
+            let mut script = Vec::new();
+            std::io::stdin().read_to_end(&mut script).expect("standard input");
+            script::replay(&script).iter().for_each(|(_, line)| print!("{line}"));
+        }
+        ["script", seed, index] => {
+            std::io::stdout().write_all(&scripts::script(number(seed), number(index))).expect("standard output");
+        }
+        ["boards", seed, count, program, ref rest @ ..] => {
+            if !boards::compare(program, rest, number(seed), number(count)) {
+                exit(1);
+            }
+        }
         _ => usage(),
     }
 }
 
 fn usage() -> ! {
     eprintln!("usage: decoder [read] | generate SEED COUNT | tables SEED COUNT FOLDER | judge | compare SEED COUNT PROGRAM [ARGUMENT...]");
+    eprintln!("               | replay | script SEED INDEX | boards SEED COUNT PROGRAM [ARGUMENT...]");
     exit(2)
 }

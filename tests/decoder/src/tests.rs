@@ -1,5 +1,8 @@
 use crate::decode::decode;
 use crate::generate::{bulletin, may_follow, CLASSES};
+use crate::instants;
+use crate::script::replay;
+use crate::scripts::script;
 use crate::table::{judge, row};
 use crate::words::cut;
 
@@ -142,4 +145,58 @@ fn rows_are_read_back() {
     assert_eq!(judge(&format!("a 0 0 {one_line}|{sample}\n")), "a: 0 0 ok\n1 ok, 0 wrong\n");
     assert_eq!(judge(&format!("a 0 0 {one_line}\n")), "a: 0 0 WRONG\n0 ok, 1 wrong\n");
     assert_eq!(judge(&format!("a 9 100 {sample}\n")), "a: 0 0 WRONG\n0 ok, 1 wrong\n");
+}
+
+/// Days counted month by month.
+#[test]
+fn days_of_months() {
+    let mut days = 0;
+    for year in 2000..2100 {
+        for length in [31, if year % 4 == 0 { 29 } else { 28 }, 31, 30, 31, 30, 31, 31, 30, 31, 30, 31] {
+            for day in 1..=length {
+                assert_eq!(instants::day_of_month(days), day);
+                days += 1;
+            }
+        }
+    }
+    assert_eq!(days * 1_440, instants::OVER);
+}
+
+#[test]
+fn instants_of_the_paper() {
+    assert_eq!(instants::group(12_648_030), "180830");
+    assert_eq!(instants::start(12_648_030, "180830"), Some(12_648_030));
+    assert_eq!(instants::end("WS", 12_648_030, "181230"), Some(12_648_270));
+    assert_eq!(instants::start(12_709_380, "010100"), Some(12_709_500));
+    assert_eq!(instants::start(12_182_340, "290100"), None);
+    assert_eq!(instants::target_start("WS", 12_648_270, "180830"), Some(12_648_030));
+    assert_eq!(instants::target_start("WS", 12_648_270, "180829"), None);
+}
+
+#[test]
+fn scripts_of_the_paper() {
+    let said = |script: &[u8]| replay(script).into_iter().map(|(_, line)| line).collect::<String>();
+    let mut script = format!("P 12648030 130\n{SAMPLE}\nL 12648030 22\nL 12648030 21\nL 12648270 5\n").into_bytes();
+    let lines = "p 0\nl 0 22 0100c0fe5e02514242423120202000c0fe5e00c0ff4e\nl 14 0\nl 0 5 0100c0ff4e\n";
+    assert_eq!(said(&script), lines);
+    script.push(b'\n');
+    assert_eq!(said(&script), format!("{lines}?\n"));
+}
+
+/// The scripts have every answer that a script can have, and are as long as they may be.
+#[test]
+fn scripts_have_all() {
+    let mut found = std::collections::BTreeSet::new();
+    let mut longest = 0;
+    for index in 0..24 {
+        let script = script(1, index);
+        longest = longest.max(script.len());
+        for (_, line) in replay(&script) {
+            found.insert(line.trim_end().split(' ').take(2).collect::<Vec<_>>().join(" "));
+        }
+    }
+    for key in ["p 0", "p 15", "p 16", "p 17", "p 18", "p 19", "p 20", "p 21", "p 22", "p 23", "l 0", "l 14", "l 16", "l 17", "?"] {
+        assert!(found.contains(key), "{key}");
+    }
+    assert!((1_048_000..=1_048_576).contains(&longest), "{longest}");
 }

@@ -1,0 +1,40 @@
+-- `calls::list_into` tells no more than the buffer holds: the count lies within it. Assumes nothing.
+use Rattle.io.proofs.Counting.{front}
+use Rattle.replay.proofs.Counted.{counted}
+use native.Mathlib.Omega.{arith}
+use borrow.Author.Needs.{needs}
+use Rattle.replay.proofs.calls.list_into.Statement.{statement}
+use Rattle.replay.proofs.calls.list_into.Tie as tie
+
+list-requires : tie.Need-list-requires
+list-requires c κs = search needs
+
+cast-tell-listed : tie.Need-cast-tell-listed
+cast-tell-listed c = search needs
+
+slice-reshare-prefix-tell-listed : tie.Need-slice-reshare-prefix-tell-listed
+slice-reshare-prefix-tell-listed c = omega (arith, counted _ _ _ _ (c .before .before .before .list .ensures))
+
+slice-aggregate-tell-listed : tie.Need-slice-aggregate-tell-listed
+slice-aggregate-tell-listed c = front _ _ (omega (arith, counted _ _ _ _ (c .before .before .before .before .list .ensures)))
+
+tell-listed-requires : tie.Need-tell-listed-requires
+tell-listed-requires c κs = search needs
+
+same-length : tie.Need-same-length
+same-length c = search needs
+
+returns : tie.Need-returns
+returns c = search needs
+
+pub list-into-spec : {M : Type 1} → statement M
+list-into-spec =
+    tie.close
+    (tie.spec
+    list-requires
+    cast-tell-listed
+    slice-reshare-prefix-tell-listed
+    slice-aggregate-tell-listed
+    tell-listed-requires
+    same-length
+    returns)
