@@ -89,13 +89,13 @@ axisOf width = record { width = width; greatest = 0; plus = 0; minus = 0 }
 abbrev pub outlineWords : ℕ → List Point → List (List ℕ)
 outlineWords n points = bytes "WI" ∷ joined (take n points)
 
--- a number in so many figures, with what stands before and behind it
-abbrev pub measuredWord : List ℕ → ℕ → ℕ → List ℕ → List ℕ
-measuredWord front n figures unit = front ++ (inFigures figures n ++ unit)
+-- `SFC/` and a number in so many figures
+abbrev pub surfaceWord : ℕ → ℕ → List ℕ
+surfaceWord n figures = bytes "SFC/" ++ inFigures figures n
 
 -- `SFC/nnnnFT`, `SFC/nnnnnFT` (10000 up)
 abbrev pub feetWord : ℕ → List ℕ
-feetWord n = measuredWord (bytes "SFC/") n (feetFigures n) (bytes "FT")
+feetWord n = surfaceWord n (feetFigures n) ++ bytes "FT"
 
 -- `FLnnn/nnn`
 abbrev pub bandWord : ℕ → ℕ → List ℕ

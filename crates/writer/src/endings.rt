@@ -7,7 +7,7 @@ ghost use Rattle.message.specs.Locations.{goodExtent};
 ghost use Rattle.message.specs.Reports.{endingWords};
 ghost use Rattle.motions.specs.Motions.{spellCompass, spellIntensity};
 ghost use Rattle.motions.specs.Speeds.{unitWords, spellSpeed};
-ghost use Rattle.pens.specs.Pens.{Puts, Words};
+ghost use Rattle.pens.specs.Pens.{Puts, Words, packed};
 ghost use Rattle.writer.specs.Writing.{GoodEnding, movingWords, stationaryWords, forecastWords};
 use crate::locating::put_extent;
 use crate::observing::put_time;
@@ -18,42 +18,94 @@ use motions::Speed;
 use pens::put;
 use pens::put_all;
 use pens::put_figures;
+use pens::put_short;
 use pens::put_word;
 
+// Words of at most eight letters, each kept as one number in base 256.
+const N: u64 = 0x4e;
+
+const NNE: u64 = 0x4e_4e_45;
+
+const NE: u64 = 0x4e_45;
+
+const ENE: u64 = 0x45_4e_45;
+
+const E: u64 = 0x45;
+
+const ESE: u64 = 0x45_53_45;
+
+const SE: u64 = 0x53_45;
+
+const SSE: u64 = 0x53_53_45;
+
+const S: u64 = 0x53;
+
+const SSW: u64 = 0x53_53_57;
+
+const SW: u64 = 0x53_57;
+
+const WSW: u64 = 0x57_53_57;
+
+const W: u64 = 0x57;
+
+const WNW: u64 = 0x57_4e_57;
+
+const NW: u64 = 0x4e_57;
+
+const NNW: u64 = 0x4e_4e_57;
+
+const INTSF: u64 = 0x49_4e_54_53_46;
+
+const WKN: u64 = 0x57_4b_4e;
+
+const NC: u64 = 0x4e_43;
+
 // The sixteen points of the compass are numbered 0 (N) to 15 (NNW), clockwise.
+fn compass(direction: u8) -> u64
+    ensures { λ r. ⌜ packed r ≡ spellCompass direction ⌝ }
+{
+    match direction {
+        0 => N,
+        1 => NNE,
+        2 => NE,
+        3 => ENE,
+        4 => E,
+        5 => ESE,
+        6 => SE,
+        7 => SSE,
+        8 => S,
+        9 => SSW,
+        10 => SW,
+        11 => WSW,
+        12 => W,
+        13 => WNW,
+        14 => NW,
+        15 => NNW,
+        16..=255 => 0,
+    }
+}
+
 fn put_compass(out: &mut [u8], at: usize, direction: u8) -> usize
     ensures { λ r. ⌜ Words (spellCompass direction ∷ []) at (now (out .entry)) r (now (out .exit)) ⌝ }
 {
-    match direction {
-        0 => put_word(out, at, b"N"),
-        1 => put_word(out, at, b"NNE"),
-        2 => put_word(out, at, b"NE"),
-        3 => put_word(out, at, b"ENE"),
-        4 => put_word(out, at, b"E"),
-        5 => put_word(out, at, b"ESE"),
-        6 => put_word(out, at, b"SE"),
-        7 => put_word(out, at, b"SSE"),
-        8 => put_word(out, at, b"S"),
-        9 => put_word(out, at, b"SSW"),
-        10 => put_word(out, at, b"SW"),
-        11 => put_word(out, at, b"WSW"),
-        12 => put_word(out, at, b"W"),
-        13 => put_word(out, at, b"WNW"),
-        14 => put_word(out, at, b"NW"),
-        15 => put_word(out, at, b"NNW"),
-        16..=255 => put(out, at, b' '),
+    put_short(out, at, compass(direction))
+}
+
+fn intensity_word(n: u8) -> u64
+    ensures { λ r. ⌜ packed r ≡ spellIntensity n ⌝ }
+{
+    match n {
+        1 => INTSF,
+        2 => WKN,
+        3 => NC,
+        _ => 0,
     }
 }
 
 fn put_intensity(out: &mut [u8], at: usize, n: u8) -> usize
     ensures { λ r. ⌜ Words (spellIntensity n ∷ []) at (now (out .entry)) r (now (out .exit)) ⌝ }
 {
-    match n {
-        1 => put_word(out, at, b"INTSF"),
-        2 => put_word(out, at, b"WKN"),
-        3 => put_word(out, at, b"NC"),
-        _ => put(out, at, b' '),
-    }
+    put_short(out, at, intensity_word(n))
 }
 
 fn put_unit(out: &mut [u8], at: usize, n: u8) -> usize

@@ -2,12 +2,14 @@
 ghost use mathlib.Core.List.{[], _∷_};
 ghost use Rattle.groups.specs.Groups.{spellTime};
 ghost use Rattle.message.specs.Reports.{observationWords};
-ghost use Rattle.pens.specs.Pens.{Words};
+ghost use mathlib.Core.Path.{_≡_};
+ghost use Rattle.pens.specs.Pens.{Words, packed};
 ghost use Rattle.writer.specs.Writing.{observedWord};
 use groups::Time;
 use message::Observation;
 use pens::put;
 use pens::put_figures;
+use pens::put_short;
 use pens::put_word;
 
 pub(crate) fn put_time(out: &mut [u8], at: usize, t: Time) -> usize
@@ -19,12 +21,17 @@ pub(crate) fn put_time(out: &mut [u8], at: usize, t: Time) -> usize
     put(out, c, b'Z')
 }
 
-fn put_observed(out: &mut [u8], at: usize, n: u8) -> usize
-    ensures { λ r. ⌜ Words (observedWord n ∷ []) at (now (out .entry)) r (now (out .exit)) ⌝ }
+// Words of at most eight letters, each kept as one number in base 256.
+const OBS: u64 = 0x4f_42_53;
+
+const FCST: u64 = 0x46_43_53_54;
+
+fn observed_word(n: u8) -> u64
+    ensures { λ r. ⌜ packed r ≡ observedWord n ⌝ }
 {
     match n {
-        1 => put_word(out, at, b"OBS"),
-        _ => put_word(out, at, b"FCST"),
+        1 => OBS,
+        _ => FCST,
     }
 }
 
@@ -32,7 +39,7 @@ pub(crate) fn put_observation(out: &mut [u8], at: usize, o: Observation) -> usiz
     ensures { λ r. ⌜ Words (observationWords o) at (now (out .entry)) r (now (out .exit)) ⌝ }
 {
     let time = o.time;
-    let a = put_observed(out, at, o.word);
+    let a = put_short(out, at, observed_word(o.word));
     if o.timed {
         let b = put_word(out, a, b"AT");
         return put_time(out, b, time);

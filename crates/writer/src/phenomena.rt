@@ -1,49 +1,84 @@
 // The phenomenon, by its number, and the volcano of an eruption.
 ghost use mathlib.Core.Bool.{true};
-ghost use mathlib.Core.List.{[], _∷_};
 ghost use mathlib.Core.Path.{_≡_};
 ghost use Prim.Native.Nat.{_≤_};
 ghost use Rattle.message.specs.Reports.{goodVolcano, mountWords, volcanoWords, phenomenonWords};
-ghost use Rattle.pens.specs.Pens.{Words};
+ghost use Rattle.pens.specs.Pens.{Words, packed};
 ghost use Rattle.writer.specs.Writing.{GoodMount, GoodPhenomenon, firstWord, secondWord, namedWords};
 use crate::areas::put_name;
 use crate::locating::put_point;
 use message::Name;
 use message::Volcano;
+use pens::put_short;
 use pens::put_word;
 
+// Words of at most eight letters, each kept as one number in base 256.
+const OBSC: u64 = 0x4f_42_53_43;
+
+const EMBD: u64 = 0x45_4d_42_44;
+
+const FRQ: u64 = 0x46_52_51;
+
+const SQL: u64 = 0x53_51_4c;
+
+const SEV: u64 = 0x53_45_56;
+
+const HVY: u64 = 0x48_56_59;
+
+const RDOACT: u64 = 0x52_44_4f_41_43_54;
+
+const VA: u64 = 0x56_41;
+
+const TS: u64 = 0x54_53;
+
+const TSGR: u64 = 0x54_53_47_52;
+
+const TURB: u64 = 0x54_55_52_42;
+
+const ICE: u64 = 0x49_43_45;
+
+const MTW: u64 = 0x4d_54_57;
+
+const DS: u64 = 0x44_53;
+
+const SS: u64 = 0x53_53;
+
+const CLD: u64 = 0x43_4c_44;
+
+const ERUPTION: u64 = 0x45_52_55_50_54_49_4f_4e;
+
 // How the phenomenon stands, in its first word.
-fn put_first(out: &mut [u8], at: usize, n: u8) -> usize
+fn first_word(n: u8) -> u64
     requires { ⌜ (1 ≤ n) × (n ≤ 17) ⌝ }
-    ensures { λ r. ⌜ Words (firstWord n ∷ []) at (now (out .entry)) r (now (out .exit)) ⌝ }
+    ensures { λ r. ⌜ packed r ≡ firstWord n ⌝ }
 {
     match n {
-        1..=2 => put_word(out, at, b"OBSC"),
-        3..=4 => put_word(out, at, b"EMBD"),
-        5..=6 => put_word(out, at, b"FRQ"),
-        7..=8 => put_word(out, at, b"SQL"),
-        9..=12 => put_word(out, at, b"SEV"),
-        13..=14 => put_word(out, at, b"HVY"),
-        15 => put_word(out, at, b"RDOACT"),
-        _ => put_word(out, at, b"VA"),
+        1..=2 => OBSC,
+        3..=4 => EMBD,
+        5..=6 => FRQ,
+        7..=8 => SQL,
+        9..=12 => SEV,
+        13..=14 => HVY,
+        15 => RDOACT,
+        _ => VA,
     }
 }
 
 // What it is, in its second.
-fn put_second(out: &mut [u8], at: usize, n: u8) -> usize
+fn second_word(n: u8) -> u64
     requires { ⌜ (1 ≤ n) × (n ≤ 17) ⌝ }
-    ensures { λ r. ⌜ Words (secondWord n ∷ []) at (now (out .entry)) r (now (out .exit)) ⌝ }
+    ensures { λ r. ⌜ packed r ≡ secondWord n ⌝ }
 {
     match n {
-        1 | 3 | 5 | 7 => put_word(out, at, b"TS"),
-        2 | 4 | 6 | 8 => put_word(out, at, b"TSGR"),
-        9 => put_word(out, at, b"TURB"),
-        10..=11 => put_word(out, at, b"ICE"),
-        12 => put_word(out, at, b"MTW"),
-        13 => put_word(out, at, b"DS"),
-        14 => put_word(out, at, b"SS"),
-        15..=16 => put_word(out, at, b"CLD"),
-        _ => put_word(out, at, b"ERUPTION"),
+        1 | 3 | 5 | 7 => TS,
+        2 | 4 | 6 | 8 => TSGR,
+        9 => TURB,
+        10..=11 => ICE,
+        12 => MTW,
+        13 => DS,
+        14 => SS,
+        15..=16 => CLD,
+        _ => ERUPTION,
     }
 }
 
@@ -52,8 +87,8 @@ fn put_named(out: &mut [u8], at: usize, n: u8) -> usize
     requires { ⌜ (1 ≤ n) × (n ≤ 17) ⌝ }
     ensures { λ r. ⌜ Words (namedWords n) at (now (out .entry)) r (now (out .exit)) ⌝ }
 {
-    let a = put_first(out, at, n);
-    let b = put_second(out, a, n);
+    let a = put_short(out, at, first_word(n));
+    let b = put_short(out, a, second_word(n));
     if n == 11 {
         return put_word(out, b, b"(FZRA)");
     }

@@ -1,11 +1,9 @@
 -- `put_band` meets its contract: `/` and three figures go on from the lower level. Assumes nothing.
+use Rattle.pens.specs.Pens.{packedIn}
 use Rattle.pens.proofs.PenLaws.{then, goes-on}
 use borrow.Author.Needs.{needs}
 use Rattle.writer.proofs.levelling.put_band.Statement.{statement}
 use Rattle.writer.proofs.levelling.put_band.Tie as tie
-
-slice-aggregate-put-flight : tie.Need-slice-aggregate-put-flight
-slice-aggregate-put-flight c = search needs
 
 put-flight-requires : tie.Need-put-flight-requires
 put-flight-requires c κs = search needs
@@ -20,17 +18,9 @@ same-length : tie.Need-same-length
 same-length c = search needs
 
 returns : tie.Need-returns
-returns c =
-    goes-on (c .before .before .before .before .before .before .before .before .before .before .put-flight .ensures) (then
-    (c .before .before .before .before .before .before .put .ensures) (c .before .before .put-figures .ensures))
+unfolding packedIn
+returns c = goes-on (c .before .before .before .before .before .before .before .before .before .before .put-flight .ensures) (then (c .before .before .before .before .before .before .put .ensures) (c .before .before .put-figures .ensures))
 
 pub put-band-spec : {M : Type 1} → statement M
 put-band-spec =
-    tie.close
-    (tie.spec
-    slice-aggregate-put-flight
-    put-flight-requires
-    put-requires
-    put-figures-requires
-    same-length
-    returns)
+    tie.close (tie.spec put-flight-requires put-requires put-figures-requires same-length returns)

@@ -4,8 +4,8 @@ use borrow.Author.Needs.{needs}
 use Rattle.writer.proofs.levelling.put_flight.Statement.{statement}
 use Rattle.writer.proofs.levelling.put_flight.Tie as tie
 
-put-word-requires : tie.Need-put-word-requires
-put-word-requires c κs = search needs
+put-short-requires : tie.Need-put-short-requires
+put-short-requires c κs = search needs
 
 put-figures-requires : tie.Need-put-figures-requires
 put-figures-requires c κs = search needs
@@ -14,7 +14,7 @@ same-length : tie.Need-same-length
 same-length c = search needs
 
 returns : tie.Need-returns
-returns c = goes-on (c .before .before .before .before .before .before .put-word .ensures) (c .before .before .put-figures .ensures)
+returns c = goes-on (c .before .before .before .before .before .before .put-short .ensures) (c .before .before .put-figures .ensures)
 
 pub put-flight-spec : {M : Type 1} → statement M
-put-flight-spec = tie.close (tie.spec put-word-requires put-figures-requires same-length returns)
+put-flight-spec = tie.close (tie.spec put-short-requires put-figures-requires same-length returns)
