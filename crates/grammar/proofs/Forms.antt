@@ -21,7 +21,7 @@ use Rattle.words.specs.Words.{plainWord}
 use Rattle.words.proofs.Ranges.{between-low, between-high}
 use Rattle.figures.specs.Figures.{figuresOf}
 use Rattle.figures.proofs.Kept.{reads-spelled}
-use Rattle.groups.specs.Groups.{goodGroup, goodPeriod, periodOf, spellPeriod}
+use Rattle.groups.specs.Groups.{goodGroup, sameGroup, goodPeriod, periodOf, spellPeriod}
 use Rattle.groups.specs.declared.Group.{Group}
 use Rattle.groups.specs.declared.Period.{Period}
 use Rattle.groups.proofs.GroupLaws.{group-made, period-reads, period-plain}
@@ -31,7 +31,7 @@ use Rattle.headings.specs.declared.Sequence.{Sequence}
 use Rattle.headings.proofs.SequenceLaws.{sequence-reads, sequence-plain}
 use Rattle.message.specs.Limits.{ws, wv}
 use Rattle.message.specs.Reports.{noReport}
-use Rattle.message.specs.Records.{goodLine, sameSequence, sameGroup, namesItself, goodCancellation, goodForm, good}
+use Rattle.message.specs.Records.{goodLine, sameSequence, namesItself, goodCancellation, goodForm, good}
 use Rattle.message.specs.Words.{testTexts}
 use Rattle.message.specs.declared.FirstLine.{FirstLine}
 use Rattle.message.specs.declared.Form.the-variants.{Test, Cancellation}

@@ -12,7 +12,7 @@ use Rattle.lists.specs.Text.{bytes}
 use Rattle.figures.specs.Letters.{lettersOf, goodLetters}
 use Rattle.figures.specs.Tables.{numberIn, inNumbers}
 use Rattle.coordinates.specs.Coordinates.{northSouth, eastWest, coordinateOf, goodCoordinate}
-use Rattle.groups.specs.Groups.{groupOf, goodGroup, periodOf, goodPeriod, timeOf, goodTime}
+use Rattle.groups.specs.Groups.{groupOf, goodGroup, sameGroup, periodOf, goodPeriod, timeOf, goodTime}
 use Rattle.headings.specs.Headings.{designatorOf, goodDesignator, correctionOf, goodCorrection, officeOf}
 use Rattle.headings.specs.Sequences.{sequenceOf, goodSequence}
 use Rattle.names.specs.Names.{closingOf, goodClosing, inName}
@@ -27,7 +27,7 @@ use Rattle.levels.specs.declared.Level.the-variants.{NoLevel, Flight, SurfaceFl
 use Rattle.message.specs.Limits.{nameBytes, mountainLimit, ws, ashCloud, eruption}
 use Rattle.message.specs.Locations.{noExtent}
 use Rattle.message.specs.Names.{noName}
-use Rattle.message.specs.Records.{sameGroup, namesItself}
+use Rattle.message.specs.Records.{namesItself}
 use Rattle.message.specs.Reports.{noVolcano}
 use Rattle.message.specs.Words.{testTexts, timeOfDay}
 use Rattle.message.specs.declared.Ending.the-variants.{Moving, Stationary, Forecast}

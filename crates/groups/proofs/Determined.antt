@@ -4,6 +4,8 @@ use Rattle.lists.proofs.Choice.{determined}
 use Rattle.lists.proofs.Determined.{Determines}
 use Rattle.groups.proofs.good_group.Kinds as good-group-kinds
 use Rattle.groups.proofs.good_group.Reads as good-group-reads
+use Rattle.groups.proofs.same_group.Kinds as same-group-kinds
+use Rattle.groups.proofs.same_group.Reads as same-group-reads
 use Rattle.groups.proofs.group_word.Kinds as group-word-kinds
 use Rattle.groups.proofs.group_word.Reads as group-word-reads
 use Rattle.groups.proofs.good_period.Kinds as good-period-kinds
@@ -17,6 +19,9 @@ use Rattle.groups.proofs.time_word.Reads as time-word-reads
 
 pub good-group-determined : Determines 0 good-group-kinds.ps good-group-kinds.r good-group-reads.Learnt
 good-group-determined κs a r s x y p q = determined p q
+
+pub same-group-determined : Determines 0 same-group-kinds.ps same-group-kinds.r same-group-reads.Learnt
+same-group-determined κs a r s x y p q = determined p q
 
 pub group-word-determined : Determines 1 group-word-kinds.ps group-word-kinds.r group-word-reads.Learnt
 group-word-determined κs a r s x y p q = determined p q

@@ -24,6 +24,10 @@ onClock hour minute = both (leb hour 23) (leb minute 59)
 unfoldable pub goodGroup : Group → Bool
 goodGroup g = both (between 1 31 (g .day)) (onClock (g .hour) (g .minute))
 
+-- the same day, hour and minute
+abbrev pub sameGroup : Group → Group → Bool
+sameGroup g h = both (eqb (g .day) (h .day)) (both (eqb (g .hour) (h .hour)) (eqb (g .minute) (h .minute)))
+
 abbrev pub noGroup : Group
 noGroup = record { day = 0; hour = 0; minute = 0 }
 

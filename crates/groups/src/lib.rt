@@ -1,6 +1,6 @@
 // Day, hour and minute: the six-digit group, `group/group` and `GGggZ`.
 ghost use mathlib.Core.Path.{_≡_};
-ghost use Rattle.groups.specs.Groups.{goodGroup, groupOf, goodPeriod, periodOf, goodTime, timeOf, onClock};
+ghost use Rattle.groups.specs.Groups.{goodGroup, groupOf, goodPeriod, periodOf, goodTime, timeOf, onClock, sameGroup};
 use figures::two;
 use lists::both;
 
@@ -32,6 +32,13 @@ pub fn good_group(g: Group) -> bool
     ensures { λ r. ⌜ r ≡ goodGroup g ⌝ }
 {
     both(both(1 <= g.day, g.day <= 31), on_clock(g.hour, g.minute))
+}
+
+// Have two groups the same day, hour and minute?
+pub fn same_group(g: Group, h: Group) -> bool
+    ensures { λ r. ⌜ r ≡ sameGroup g h ⌝ }
+{
+    both(g.day == h.day, both(g.hour == h.hour, g.minute == h.minute))
 }
 
 // The group that a word is, or all zero.

@@ -6,8 +6,6 @@ use Rattle.message.proofs.empty.Kinds as empty-kinds
 use Rattle.message.proofs.empty.Reads as empty-reads
 use Rattle.message.proofs.is_good.Kinds as is-good-kinds
 use Rattle.message.proofs.is_good.Reads as is-good-reads
-use Rattle.message.proofs.same_group.Kinds as same-group-kinds
-use Rattle.message.proofs.same_group.Reads as same-group-reads
 use Rattle.message.proofs.names_itself.Kinds as names-itself-kinds
 use Rattle.message.proofs.names_itself.Reads as names-itself-reads
 
@@ -16,9 +14,6 @@ empty-determined κs a r s x y p q = determined p q
 
 pub is-good-determined : Determines 0 is-good-kinds.ps is-good-kinds.r is-good-reads.Learnt
 is-good-determined κs a r s x y p q = determined p q
-
-pub same-group-determined : Determines 0 same-group-kinds.ps same-group-kinds.r same-group-reads.Learnt
-same-group-determined κs a r s x y p q = determined p q
 
 pub names-itself-determined : Determines 0 names-itself-kinds.ps names-itself-kinds.r names-itself-reads.Learnt
 names-itself-determined κs a r s x y p q = determined p q

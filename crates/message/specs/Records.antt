@@ -7,7 +7,7 @@ use lib.Dec.{eqb}
 use Rattle.lists.specs.Choice.{both, either}
 use Rattle.words.specs.Bytes.{between}
 use Rattle.figures.specs.Letters.{goodLetters}
-use Rattle.groups.specs.Groups.{goodGroup, goodPeriod}
+use Rattle.groups.specs.Groups.{goodGroup, sameGroup, goodPeriod}
 use Rattle.headings.specs.Headings.{goodDesignator, goodCorrection}
 use Rattle.headings.specs.Sequences.{goodSequence}
 use Rattle.names.specs.Names.{goodClosing}
@@ -41,9 +41,6 @@ goodArea a = both (goodLetters 4 (a .indicator)) (both (goodName false nameBytes
 
 abbrev pub sameSequence : Sequence → Sequence → Bool
 sameSequence s t = both (eqb (s .letter) (t .letter)) (both (eqb (s .digits) (t .digits)) (eqb (s .number) (t .number)))
-
-abbrev pub sameGroup : Group → Group → Bool
-sameGroup g h = both (eqb (g .day) (h .day)) (both (eqb (g .hour) (h .hour)) (eqb (g .minute) (h .minute)))
 
 -- "Sequence and both groups are not all those of the message itself": the second group is that of VALID in any case
 unfoldable pub namesItself : FirstLine → Sequence → Group → Bool

@@ -2,7 +2,7 @@
 ghost use mathlib.Core.Path.{_≡_};
 ghost use Rattle.groups.specs.Groups.{noGroup};
 ghost use Rattle.message.specs.Empty.{noHeading, noLine, noRecord};
-ghost use Rattle.message.specs.Records.{goodHeading, goodLine, goodArea, sameSequence, sameGroup, namesItself, goodCancellation, goodForm, good};
+ghost use Rattle.message.specs.Records.{goodHeading, goodLine, goodArea, sameSequence, namesItself, goodCancellation, goodForm, good};
 
 mod locating;
 mod naming;
@@ -15,6 +15,7 @@ use groups::Period;
 use groups::Time;
 use groups::good_group;
 use groups::good_period;
+use groups::same_group;
 use headings::Designator;
 use headings::Sequence;
 use headings::four_letters;
@@ -241,13 +242,6 @@ fn same_sequence(s: Sequence, t: Sequence) -> bool
         s.letter == t.letter,
         both(s.digits == t.digits, s.number == t.number),
     )
-}
-
-// Have two groups the same day, hour and minute?
-pub fn same_group(g: Group, h: Group) -> bool
-    ensures { λ r. ⌜ r ≡ sameGroup g h ⌝ }
-{
-    both(g.day == h.day, both(g.hour == h.hour, g.minute == h.minute))
 }
 
 // Would a cancellation of that sequence and start name the message itself?

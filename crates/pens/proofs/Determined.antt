@@ -14,6 +14,8 @@ use Rattle.pens.proofs.put_figures.Kinds as put-figures-kinds
 use Rattle.pens.proofs.put_figures.Reads as put-figures-reads
 use Rattle.pens.proofs.put_letters.Kinds as put-letters-kinds
 use Rattle.pens.proofs.put_letters.Reads as put-letters-reads
+use Rattle.pens.proofs.put_short.Kinds as put-short-kinds
+use Rattle.pens.proofs.put_short.Reads as put-short-reads
 
 -- a pen is a reply with a page: the two parts of an outcome
 pub put-settles : Settles 1 put-kinds.ps put-kinds.r put-reads.Learnt
@@ -30,3 +32,6 @@ put-figures-settles κs a r s x y p q = (ap (λ (z : Pen). z .at) (puts-same p q
 
 pub put-letters-settles : Settles 1 put-letters-kinds.ps put-letters-kinds.r put-letters-reads.Learnt
 put-letters-settles κs a r s x y p q = (ap (λ (z : Pen). z .at) (puts-same p q), ap (λ (z : Pen). (z .page, x .1)) (puts-same p q))
+
+pub put-short-settles : Settles 1 put-short-kinds.ps put-short-kinds.r put-short-reads.Learnt
+put-short-settles κs a r s x y p q = (ap (λ (z : Pen). z .at) (words-same p q), ap (λ (z : Pen). (z .page, x .1)) (words-same p q))

@@ -8,10 +8,10 @@ use native.Mathlib.Numerals.{add-one, sub-one}
 use native.Mathlib.Omega.{arith}
 use lib.ListN.{length, getD, take, drop, set, length-set}
 use lib.Seq.{take-all, take-suc, sets, sets-eq}
-use borrow.Author.Tests.{lt-ltb, le-ltb}
+use borrow.Author.Tests.{lt-ltb, le-ltb, ne-eqb}
 use Rattle.lists.specs.Base.{places}
 use Rattle.words.specs.Words.{line}
-use Rattle.pens.specs.Pens.{Pen, pen, stroke, strokes, Puts, spaced, Words, Line, shifted}
+use Rattle.pens.specs.Pens.{Pen, pen, stroke, strokes, Puts, spaced, Words, Line, shifted, packedIn}
 
 -- Texts.
 
@@ -65,6 +65,25 @@ pub unshifted : (l : List ℕ) → map (λ (d : ℕ). d + 0) l ≡ l
 unshifted [] = refl
 unshifted (x ∷ l) = rw (add-zero x, unshifted l)
 
+-- no byte of a word kept as one number, where no more may come or none is left, and one more
+pub no-more : (k n : ℕ) {at : ℕ} {page : List ℕ} → k ≡ 0 → Puts (packedIn k n) at page at page
+unfolding packedIn strokes
+no-more k n e = record { says = rw e }
+
+pub none-left : (k n : ℕ) {at : ℕ} {page : List ℕ} → n ≡ 0 → Puts (packedIn k n) at page at page
+unfolding packedIn strokes
+none-left zero n e = record { says = refl }
+none-left (suc k) n e = record { says = rw e }
+
+pub byte-more : (k n : ℕ) {at m o : ℕ} {page p q : List ℕ} → (k ≡ 0 → ⊥) → (n ≡ 0 → ⊥) → Puts (packedIn (k - 1) (n / 256)) at page m p
+    → Puts (n % 256 ∷ []) m p o q → Puts (packedIn k n) at page o q
+unfolding packedIn
+byte-more zero n h i f g = absurd (h refl)
+byte-more (suc k) n h i f g =
+    let both : Puts (packedIn (suc k - 1) (n / 256) ++ (n % 256 ∷ [])) _ _ _ _ = then f g in
+    let e : suc k - 1 ≡ k = sub-one (suc k) in
+    record { says = rw (ne-eqb n 0 i) (rw e at (both .says)) }
+
 -- Words.
 
 spaced-append : (a b : List (List ℕ)) → spaced (a ++ b) ≡ spaced a ++ spaced b
@@ -79,6 +98,10 @@ no-words = record { says = refl }
 pub and-then : {a b : List (List ℕ)} {at n m : ℕ} {page p q : List ℕ} → Words a at page n p → Words b n p m q → Words (a ++ b) at page m q
 and-then {a} {b} {at} {n} {m} {page} f g =
     record { says = ap (λ (t : List ℕ). strokes t (pen at page)) (spaced-append a b) ∙ (strokes-append (spaced a) (spaced b) (pen at page) ∙ (ap (strokes (spaced b)) (f .says) ∙ g .says)) }
+
+-- a word by another name
+pub told : {v w : List ℕ} {at n : ℕ} {page p : List ℕ} → v ≡ w → Words (v ∷ []) at page n p → Words (w ∷ []) at page n p
+told e f = rw e at f
 
 -- a space begins a word of no byte yet
 pub a-space : {at n : ℕ} {page p : List ℕ} → Puts (32 ∷ []) at page n p → Words ([] ∷ []) at page n p

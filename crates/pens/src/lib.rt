@@ -4,7 +4,7 @@ ghost use mathlib.Core.List.{[], _∷_};
 ghost use Prim.Native.Nat.{_+_, _≤_, _<_};
 ghost use Rattle.figures.specs.Figures.{inFigures};
 ghost use Rattle.figures.specs.Letters.{inLetters};
-ghost use Rattle.pens.specs.Pens.{Puts, Words, shifted};
+ghost use Rattle.pens.specs.Pens.{Puts, Words, shifted, packedIn, packed};
 
 // One byte.
 pub fn put(out: &mut [u8], at: usize, x: u8) -> usize
@@ -62,4 +62,26 @@ pub fn put_letters(out: &mut [u8], at: usize, n: u32, k: u8) -> usize
     ensures { λ r. ⌜ Puts (inLetters k n) at (now (out .entry)) r (now (out .exit)) ⌝ }
 {
     put_places(out, at, n, k, 256, 0)
+}
+
+// The bytes of a word kept as one number, at most k of them; 0 is the empty word.
+fn put_packed(out: &mut [u8], at: usize, n: u64, k: u8) -> usize
+    ensures { λ r. ⌜ Puts (packedIn k n) at (now (out .entry)) r (now (out .exit)) ⌝ }
+{
+    if k == 0 {
+        return at;
+    }
+    if n == 0 {
+        return at;
+    }
+    let next = put_packed(out, at, n / 256, k - 1);
+    put(out, next, (n % 256) as u8)
+}
+
+// A space, and behind it a word of at most eight bytes that is kept as one number, its first byte the greatest place.
+pub fn put_short(out: &mut [u8], at: usize, word: u64) -> usize
+    ensures { λ r. ⌜ Words (packed word ∷ []) at (now (out .entry)) r (now (out .exit)) ⌝ }
+{
+    let first = put(out, at, b' ');
+    put_packed(out, first, word, 8)
 }

@@ -15,11 +15,11 @@ use groups::Group;
 use groups::Period;
 use groups::good_period;
 use groups::period_word;
+use groups::same_group;
 use headings::Sequence;
 use lists::both;
 use message::FirstLine;
 use message::names_itself;
-use message::same_group;
 
 pub(crate) struct CancellationRead {
     pub number: u8,

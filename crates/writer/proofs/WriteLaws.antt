@@ -1,76 +1,51 @@
--- What is left for `write`: a good record's parts for its sections, the page as the text, and one law for each reply.
+-- What `put_text` left on the page as the text, and one law for each reply.
 -- Assumes nothing.
 use mathlib.Core.Bool.{true, false}
-use mathlib.Core.List.{List, _++_}
+use mathlib.Core.List.{List, [], _++_}
 use mathlib.Core.Path.{_≡_}
-use Prim.Native.Nat.{ℕ, _-_, _≤_, _<_}
+use Prim.Native.Nat.{ℕ, _≤_, _<_, zero-le}
 use native.Mathlib.Omega.{arith}
-use lib.ListN.{length, take, drop}
+use lib.ListN.{length, take, drop, length-append}
 use lib.Seq.{take-append-seam}
 use borrow.Author.Tests.{lt-ltb, le-ltb}
-use Rattle.lists.proofs.Choice.{both-left}
-use Rattle.words.specs.Bytes.{between}
-use Rattle.words.proofs.Ranges.{between-low, between-high}
-use Rattle.message.specs.Limits.{nameBytes}
-use Rattle.message.specs.Locations.{goodBound, goodExtent, noPoints}
-use Rattle.message.specs.Records.{goodForm, good}
+use Rattle.lists.proofs.Choice.{by}
+use Rattle.message.specs.Records.{good}
 use Rattle.message.specs.Words.{textOf}
-use Rattle.message.specs.declared.Bound.{Bound}
-use Rattle.message.specs.declared.Ending.{Ending}
-use Rattle.message.specs.declared.Ending.the-variants.{Forecast}
-use Rattle.message.specs.declared.Extent.{Extent}
-use Rattle.message.specs.declared.Form.{Form}
-use Rattle.message.specs.declared.Form.the-variants.{Test, Reported}
-use Rattle.message.specs.declared.Location.the-variants.{Bounded, Outline}
 use Rattle.message.specs.declared.Record.{Record}
-use Rattle.message.proofs.Goodness.{good-parts, area-parts, name-parts, outline-parts, forecast-parts}
 use Rattle.grammar.specs.Writes.{writeOf}
 use Rattle.grammar.proofs.Lengths.{text-fits}
 use Rattle.pens.specs.Pens.{Puts}
 use Rattle.pens.proofs.PenLaws.{put-place, put-page}
-use Rattle.writer.specs.Writing.{GoodReport, GoodEnding, wrote}
+use Rattle.sections.specs.Sections.{goodText}
+use Rattle.writer.specs.Writing.{wrote}
 use Rattle.writer.specs.declared.Written.{Written}
-
--- Parts of a good record, by the form that was found.
-
-form-of : (r : Record) (f : Form) → good r ≡ true → r .form ≡ f → goodForm (r .heading .designator .kind) (r .line) (r .report) f ≡ true
-form-of r f g e = rw e at (good-parts r g .form)
-
-pub test-number : (r : Record) (n : ℕ) → good r ≡ true → r .form ≡ Test n → (1 ≤ n) × (n ≤ 3)
-unfolding goodForm
-test-number r n g e =
-    let t : between 1 3 n ≡ true = both-left _ _ (form-of r (Test n) g e) in
-    (between-low 1 3 n t, between-high 1 3 n t)
-
-pub reported : (r : Record) → good r ≡ true → r .form ≡ Reported → GoodReport (r .report)
-unfolding goodForm
-reported r g e = record { kind = r .heading .designator .kind; holds = form-of r Reported g e }
-
-pub area-fits : (r : Record) → good r ≡ true → r .area .name .count ≤ 50
-area-fits r g = name-parts false nameBytes (r .area .name) (area-parts (r .area) (good-parts r g .area) .name) .fits
-
-pub forecast-good : (e : Ending) (f : Extent) (i : ℕ) → GoodEnding e f → e ≡ Forecast i → goodExtent f ≡ true
-forecast-good e f i g h = forecast-parts (g .kind) i f (rw h at (g .holds)) .forecast
-
-pub bounded : (x : Extent) (b : Bound) → goodExtent x ≡ true → x .location ≡ Bounded b → goodBound b ≡ true
-unfolding goodExtent
-bounded x b g e = both-left (goodBound b) (noPoints (x .points)) (rw e at g)
-
-pub outlined : (x : Extent) (n : ℕ) → goodExtent x ≡ true → x .location ≡ Outline n → (1 ≤ n) × (n ≤ 7)
-unfolding goodExtent
-outlined x n g e =
-    let parts = outline-parts n (x .points) (rw e at g) in
-    (omega (arith, parts .least), parts .most)
 
 -- The page.
 
-pub page-count : (r : Record) {n : ℕ} {page after : List ℕ} → good r ≡ true → length page ≡ 2049 → Puts (textOf r) 0 page n after → n ≡ length (textOf r)
-page-count r g l f = put-place f (omega (arith, text-fits r g))
+-- What was put on the page tells whether the record is good: nothing of a bad one, and the text of a good one is not empty.
 
-pub page-text : (r : Record) {n : ℕ} {page after : List ℕ} → good r ≡ true → length page ≡ 2049 → Puts (textOf r) 0 page n after → take n after ≡ textOf r
+text-some : (r : Record) → 1 ≤ length (textOf r)
+unfolding textOf
+text-some r = simp length-append (omega arith)
+
+put-good : (r : Record) {n : ℕ} {page after : List ℕ} → good r ≡ true → Puts (goodText r) 0 page n after → Puts (textOf r) 0 page n after
+put-good r g f = rw g at f
+
+pub page-count : (r : Record) {n : ℕ} {page after : List ℕ} → good r ≡ true → length page ≡ 2049 → Puts (goodText r) 0 page n after → n ≡ length (textOf r)
+page-count r g l f = put-place (put-good r g f) (omega (arith, text-fits r g))
+
+pub page-text : (r : Record) {n : ℕ} {page after : List ℕ} → good r ≡ true → length page ≡ 2049 → Puts (goodText r) 0 page n after → take n after ≡ textOf r
 page-text r {n} {page} {after} g l f =
     let long : length (textOf r) ≤ length page = omega (arith, text-fits r g) in
-    rw (put-place f long, put-page f long, take-append-seam (textOf r) (drop (length (textOf r)) page))
+    let put : Puts (textOf r) 0 page n after = put-good r g f in
+    rw (put-place put long, put-page put long, take-append-seam (textOf r) (drop (length (textOf r)) page))
+
+pub bad-here : (r : Record) {n : ℕ} {page after : List ℕ} → length page ≡ 2049 → Puts (goodText r) 0 page n after → n ≡ 0 → good r ≡ false
+bad-here r l f e = by (good r) (λ g. absurd (omega (arith, page-count r g l f, text-some r))) (λ b. b)
+
+pub good-here : (r : Record) {n : ℕ} {page after : List ℕ} → Puts (goodText r) 0 page n after → (n ≡ 0 → ⊥) → good r ≡ true
+good-here r {n} {page} {after} f h =
+    by (good r) (λ g. g) (λ b. let none : Puts [] 0 page n after = rw b at f in absurd (h (put-place none zero-le)))
 
 -- The replies.
 

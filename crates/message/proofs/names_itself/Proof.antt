@@ -5,7 +5,7 @@ use Rattle.message.proofs.names_itself.Tie as tie
 use Rattle.message.proofs.names_itself.Reads as reads
 use Rattle.message.proofs.names_itself.Lts as lts
 use Rattle.lists.proofs.both.Reads as both-reads
-use Rattle.message.proofs.same_group.Reads as same-group-reads
+use Rattle.groups.proofs.same_group.Reads as same-group-reads
 use Rattle.message.proofs.same_sequence.Reads as same-sequence-reads
 
 -- src/lib.rt:227:10

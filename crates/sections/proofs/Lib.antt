@@ -1,0 +1,4 @@
+pub mod Tables
+pub mod RecordLaws
+pub mod SectionLaws
+pub mod Determined
