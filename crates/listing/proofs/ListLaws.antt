@@ -1,5 +1,5 @@
 -- The reply of a listing: a refusal counts nothing and leaves the buffer as it was, and a listing counts its own bytes, which fit in the
--- buffer. What is left for `list`: one law for each reply. And the paper's sample, listed.
+-- buffer; what it lists is what is in force on a good board. What is left for `list`: one law for each reply. And the paper's sample, listed.
 -- Assumes nothing.
 use mathlib.Core.Bool.{true, false}
 use mathlib.Core.List.{List, [], _∷_, _++_}
@@ -8,18 +8,19 @@ use Prim.Native.Nat.{ℕ, _+_, _*_, _≤_, _<_}
 use native.Mathlib.Omega.{arith}
 use lib.Dec.{ltb, eqb}
 use lib.ListN.{length, drop}
-use borrow.Author.Tests.{ltb-false, lt-ltb, le-ltb, eqb-false, eq-eqb, ne-eqb}
+use borrow.Author.Tests.{ltb-false, lt-ltb, le-ltb, eqb-true, eqb-false, eq-eqb, ne-eqb}
 use Rattle.lists.specs.Base.{places}
 use Rattle.lists.proofs.Choice.{by}
-use Rattle.board.specs.Boards.{refusalAt}
+use Rattle.board.specs.Boards.{goodBoard, refusalAt}
 use Rattle.board.specs.declared.Board.{Board}
 use Rattle.board.specs.declared.Place.{Place}
-use Rattle.listing.specs.Rows.{inForce, selected, inserted, sortedAfter, rowsOf}
+use Rattle.board.proofs.Invariant.{board-parts}
+use Rattle.listing.specs.Rows.{inForce, selected, IsRows, inserted, sortedAfter, rowsOf}
 use Rattle.listing.specs.Holding.{rowsIn, HoldsRows}
 use Rattle.listing.specs.Listings.{timeRecord, messageRecord, records, listingOf, listOf, told, Lists}
 use Rattle.listing.specs.declared.Listed.{Listed}
 use Rattle.listing.specs.declared.rows.Rows.{Rows}
-use Rattle.listing.proofs.RowLaws.{listing-length}
+use Rattle.listing.proofs.RowLaws.{rows-are, listing-length, listing-most}
 
 -- What the definition says.
 
@@ -45,6 +46,12 @@ module _ (b : Board) (time : ℕ) (buffer : List ℕ) where
       never : _≡_ {A = ℕ} 14 0 → ⊥
       never e = omega arith
 
+  unrefused : listOf b time buffer .answer ≡ 0 → refusalAt b time ≡ 0
+  unfolding listOf
+  unrefused a =
+      by (eqb (refusalAt b time) 0) (λ (z : eqb (refusalAt b time) 0 ≡ true). eqb-true (refusalAt b time) 0 z)
+      (λ (z : eqb (refusalAt b time) 0 ≡ false). absurd (eqb-false (refusalAt b time) 0 z (rw z at a)))
+
   pub count-is : listOf b time buffer .answer ≡ 0 → listOf b time buffer .count ≡ length (listingOf time (b .places))
   count-is a = listed-then a .0
 
@@ -55,6 +62,30 @@ module _ (b : Board) (time : ℕ) (buffer : List ℕ) where
       (λ (l : ltb (length buffer) (length (listingOf time (b .places))) ≡ true). rw (z, l) (omega arith))
       (λ (l : ltb (length buffer) (length (listingOf time (b .places))) ≡ false). rw (z, l) (ltb-false (length buffer) (length (listingOf time (b .places))) l)))
       (λ (z : eqb (refusalAt b time) 0 ≡ false). rw z (omega arith))
+
+-- What is listed.
+
+unrefused-good : (b : Board) (time : ℕ) → refusalAt b time ≡ 0 → goodBoard b ≡ true
+unfolding refusalAt
+unrefused-good b time h =
+    by (goodBoard b) (λ (t : goodBoard b ≡ true). t) (λ (f : goodBoard b ≡ false). absurd (never (rw f at h)))
+  where
+    never : _≡_ {A = ℕ} 36 0 → ⊥
+    never e = omega arith
+
+-- at answer 0 the board is good, so the rows listed are the places in force, each once, strictly in the order
+pub listed-rows : (b : Board) (time : ℕ) (buffer : List ℕ) → listOf b time buffer .answer ≡ 0 → IsRows time (b .places) (rowsOf time (b .places))
+listed-rows b time buffer a =
+    rows-are time (b .places) (board-parts b (unrefused-good b time (unrefused b time buffer a)) .distincts)
+
+-- "At most 1,093 bytes"
+pub count-most : (b : Board) (time : ℕ) (buffer : List ℕ) → listOf b time buffer .count ≤ 1093
+count-most b time buffer =
+    by (eqb (listOf b time buffer .answer) 0) (λ (z : eqb (listOf b time buffer .answer) 0 ≡ true).
+    let a : listOf b time buffer .answer ≡ 0 = eqb-true (listOf b time buffer .answer) 0 z in
+    let long : length (b .places) ≡ 64 = board-parts b (unrefused-good b time (unrefused b time buffer a)) .long in
+    omega (arith, count-is b time buffer a, listing-most time (b .places) long)) (λ (z : eqb (listOf b time buffer .answer) 0 ≡ false).
+    omega (arith, refused-untouched b time buffer (eqb-false (listOf b time buffer .answer) 0 z) .0))
 
 -- The replies.
 

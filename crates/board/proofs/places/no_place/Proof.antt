@@ -11,7 +11,7 @@ no-identity-requires c κs = search needs
 
 -- src/places.rt:36:1
 returns : tie.Need-returns
-returns c = cc
+returns c = rw (c .no-identity .ensures)
 
 pub no-place-spec : {M : Type 1} → statement M
 no-place-spec = tie.close (tie.spec no-identity-requires returns)
