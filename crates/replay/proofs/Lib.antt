@@ -1,2 +1,3 @@
 pub mod Pages
 pub mod Counted
+pub mod NumberLaws

@@ -2,6 +2,8 @@
 ghost use mathlib.Core.Path.{_≡_};
 ghost use Prim.Native.Nat.{_≤_};
 ghost use lib.ListN.{length};
+ghost use Rattle.words.specs.Bytes.{digit};
+ghost use Rattle.replay.specs.Numbers.{figuresEnd, grownBy, capped, valueFrom, noNumber, numberAt};
 use lists::both;
 
 // Was the byte there?
@@ -48,18 +50,20 @@ pub(crate) fn skip(script: &[u8], at: usize, byte: u8) -> Skipped
     }
 }
 
+fn is_figure(x: u8) -> bool
+    ensures { λ r. ⌜ r ≡ digit x ⌝ }
+{
+    both(b'0' <= x, x <= b'9')
+}
+
 // The place of the first byte from there on that is no figure, or the script's length.
 fn figures_end(script: &[u8], at: usize) -> usize
     requires { ⌜ at ≤ length (now script) ⌝ }
-    ensures { λ r. ⌜ (at ≤ r) × (r ≤ length (now (script .entry))) ⌝ }
+    ensures { λ r. ⌜ (at ≤ r) × (r ≤ length (now (script .entry))) × (r ≡ figuresEnd (now (script .entry)) at) ⌝ }
 {
     let mut i = at;
     while i < script.len() {
-        let x = script[i];
-        if x < b'0' {
-            return i;
-        }
-        if b'9' < x {
+        if !is_figure(script[i]) {
             return i;
         }
         i += 1;
@@ -68,7 +72,9 @@ fn figures_end(script: &[u8], at: usize) -> usize
 }
 
 // The value with one figure more; past the greatest number it stays where it is. A figure's value is its last four bits.
-fn grown(value: u64, figure: u8) -> u64 {
+fn grown(value: u64, figure: u8) -> u64
+    ensures { λ r. ⌜ r ≡ grownBy value figure ⌝ }
+{
     if MOST < value {
         return value;
     }
@@ -76,7 +82,9 @@ fn grown(value: u64, figure: u8) -> u64 {
 }
 
 // The value of figures; of more than the greatest number, any that is past it.
-fn value_of(figures: &[u8]) -> u64 {
+fn value_of(figures: &[u8]) -> u64
+    ensures { λ r. ⌜ capped r ≡ capped (valueFrom 0 (now (figures .entry))) ⌝ }
+{
     let mut value = 0;
     let mut i = 0;
     while i < figures.len() {
@@ -87,7 +95,7 @@ fn value_of(figures: &[u8]) -> u64 {
 }
 
 fn no_number(next: usize) -> Number
-    ensures { λ r. ⌜ r .next ≡ next ⌝ }
+    ensures { λ r. ⌜ (r .next ≡ next) × (r ≡ noNumber next) ⌝ }
 {
     Number {
         formed: false,
@@ -99,7 +107,7 @@ fn no_number(next: usize) -> Number
 // One or more figures.
 fn number_at(script: &[u8], at: usize) -> Number
     requires { ⌜ at ≤ length (now script) ⌝ }
-    ensures { λ r. ⌜ (at ≤ r .next) × (r .next ≤ length (now (script .entry))) ⌝ }
+    ensures { λ r. ⌜ (at ≤ r .next) × (r .next ≤ length (now (script .entry))) × (r ≡ numberAt (now (script .entry)) at) ⌝ }
 {
     let end = figures_end(script, at);
     if end == at {
