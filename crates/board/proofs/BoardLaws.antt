@@ -1,17 +1,16 @@
 -- The tests of a board and the call's own refusals, in the shapes that the code's returns ask for.
 -- Assumes nothing.
 use mathlib.Core.Bool.{Bool, true, false, not}
-use mathlib.Core.List.{List, [], _∷_, _++_, map, append-nil}
-use mathlib.Core.Path.{_≡_, refl, sym, _∙_}
+use mathlib.Core.List.{List, _++_, map, append-nil}
+use mathlib.Core.Path.{_≡_, sym, _∙_}
 use Prim.Native.Nat.{ℕ, suc, _+_, _≤_, _<_}
 use native.Mathlib.Numerals.{add-one}
 use native.Mathlib.Nat.{le-refl}
-use native.Mathlib.Omega.{arith}
-use lib.Dec.{ltb, eqb}
-use lib.ListN.{length, take, drop, getD, set, drop-of-length-le, length-set}
+use lib.Dec.{eqb}
+use lib.ListN.{length, take, drop, getD, set, drop-of-length-le}
 use lib.Seq.{drop-cons, take-suc-set, drop-set-lt, append-snoc, take-all}
-use borrow.Author.Tests.{lt-ltb, le-ltb, not-true, not-false, eq-eqb}
-use Rattle.lists.specs.Choice.{pick, both, either}
+use borrow.Author.Tests.{lt-ltb, le-ltb, not-true, not-false}
+use Rattle.lists.specs.Choice.{both, either}
 use Rattle.lists.specs.Lists.{allOf}
 use Rattle.board.specs.Places.{noPlace, emptyPlace, goodPlace}
 use Rattle.board.specs.Boards.{inRange, differs, distinct, goodPlaces, goodBoard, refusalAt}

@@ -3,9 +3,7 @@
 use mathlib.Core.Bool.{Bool, true, false, not}
 use mathlib.Core.Path.{_≡_, sym, _∙_}
 use Prim.Native.Nat.{ℕ, _≤_, _<_}
-use lib.Dec.{leb, eqb}
 use borrow.Author.Tests.{le-leb, lt-leb, eq-eqb, ne-eqb, not-true, not-false}
-use Rattle.lists.specs.Choice.{pick}
 use Rattle.lists.proofs.Choice.{both-left}
 use Rattle.groups.specs.declared.Group.{Group}
 use Rattle.headings.specs.Sequences.{goodSequence}

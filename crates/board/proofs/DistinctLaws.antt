@@ -1,19 +1,19 @@
 -- No identity is held twice: what that says of two places, and that it stays so where a place is set.
 -- Assumes nothing.
 use mathlib.Core.Bool.{Bool, true, false, not}
-use mathlib.Core.List.{List, [], _∷_, map}
-use mathlib.Core.Path.{_≡_, refl, sym, ap, _∙_}
-use Prim.Native.Nat.{ℕ, zero, suc, _+_, _≤_, _<_, suc-le-suc, zero-le}
+use mathlib.Core.List.{List, [], _∷_}
+use mathlib.Core.Path.{_≡_, refl, ap}
+use Prim.Native.Nat.{ℕ, zero, suc, _<_, suc-le-suc, zero-le}
 use native.Mathlib.Nat.{not-suc-le-zero, le-of-suc-le-suc}
 use native.Mathlib.Omega.{arith}
-use lib.Dec.{leb, eqb}
+use lib.Dec.{eqb}
 use lib.ListN.{length, getD, set}
 use borrow.Author.Tests.{eq-eqb, eqb-true, not-true}
-use Rattle.lists.specs.Choice.{pick, both, either}
+use Rattle.lists.specs.Choice.{either}
 use Rattle.lists.specs.Lists.{allOf}
 use Rattle.lists.proofs.Choice.{by, clash, both-left, both-right, both-true, both-five, either-left, either-right, either-cases}
 use Rattle.lists.proofs.Lists.{all-at}
-use Rattle.board.specs.Places.{sameIdentity, noIdentity, noPlace, emptyPlace}
+use Rattle.board.specs.Places.{sameIdentity, noPlace, emptyPlace}
 use Rattle.board.specs.Boards.{differs, distinct}
 use Rattle.board.specs.declared.Identity.{Identity}
 use Rattle.board.specs.declared.Place.{Place}

@@ -1,21 +1,21 @@
 -- The invariant: the empty board is good, and every post leaves a good board good.
 -- Assumes nothing.
-use mathlib.Core.Bool.{Bool, true, false, not}
+use mathlib.Core.Bool.{true, false, not}
 use mathlib.Core.List.{List, [], _∷_, map}
-use mathlib.Core.Path.{_≡_, refl, sym, ap, _∙_}
-use Prim.Native.Nat.{ℕ, zero, suc, _+_, _≤_, _<_}
+use mathlib.Core.Path.{_≡_, refl, ap, _∙_}
+use Prim.Native.Nat.{ℕ, suc, _+_, _≤_, _<_}
 use native.Mathlib.Omega.{arith}
 use lib.Dec.{leb, ltb, eqb}
 use lib.ListN.{length, getD, set, length-set}
-use borrow.Author.Tests.{eq-eqb, ne-eqb, eqb-true, eqb-false, lt-ltb, le-leb, leb-true, leb-false, ltb-true, ltb-false, not-true}
-use Rattle.lists.specs.Choice.{pick, both, either}
+use borrow.Author.Tests.{eq-eqb, eqb-true, eqb-false, lt-ltb, le-leb, leb-true, leb-false, ltb-true, ltb-false}
+use Rattle.lists.specs.Choice.{both, either}
 use Rattle.lists.specs.Lists.{allOf, indexOf}
 use Rattle.lists.proofs.Choice.{by, clash, both-left, both-right, both-true, both-three, either-left, either-right, either-cases}
-use Rattle.lists.proofs.Lists.{all-map, all-weaken, index-found, index-before, index-within}
+use Rattle.lists.proofs.Lists.{all-map, all-weaken, index-found, index-before}
 use Rattle.words.proofs.Ranges.{between-low}
 use Rattle.figures.specs.Letters.{goodLetters}
 use Rattle.groups.specs.declared.Group.{Group}
-use Rattle.headings.specs.Headings.{typeWords, goodType, goodDesignator, goodCorrection}
+use Rattle.headings.specs.Headings.{typeWords, goodType, goodDesignator}
 use Rattle.headings.specs.Sequences.{goodSequence}
 use Rattle.headings.specs.declared.Sequence.{Sequence}
 use Rattle.message.specs.Records.{good}
@@ -24,22 +24,19 @@ use Rattle.message.specs.declared.Form.the-variants.{NoForm, Test, Cancellation
 use Rattle.message.specs.declared.Record.{Record}
 use Rattle.message.proofs.Goodness.{good-parts, heading-parts, area-parts}
 use Rattle.calendar.specs.Gregorian.{never}
-use Rattle.calendar.specs.Instants.{limitOf, startOf, endOf, targetOf}
+use Rattle.calendar.specs.Instants.{limitOf, endOf, targetOf}
 use Rattle.calendar.proofs.CalendarLaws.{end-bound, end-within, target-bound, target-within}
 use Rattle.board.specs.Padded.{heldSequence, paddedOf}
 use Rattle.board.specs.Places.{sameIdentity, noIdentity, noPlace, emptyPlace, heldIdentity, heldCorrection, heldPlace, goodPlace}
 use Rattle.board.specs.Boards.{placeCount, inRange, differs, distinct, goodPlaces, goodBoard, emptyBoard, refusalAt}
-use Rattle.board.specs.Claims.{unclaimed, claimed, identityOf, reportPlace, targetPlace, ending, cancels, timed, isTest, startAt, endAt, claimOf}
-use Rattle.board.specs.Posts.{kept, dropped, holds, objection, spotOf, placeAt, settled, claimedOn, postOf}
+use Rattle.board.specs.Claims.{identityOf, reportPlace, targetPlace, ending, cancels, timed, isTest, startAt, endAt, claimOf}
+use Rattle.board.specs.Posts.{kept, dropped, holds, spotOf, placeAt, settled, claimedOn, postOf}
 use Rattle.board.specs.declared.Board.{Board}
 use Rattle.board.specs.declared.Claim.{Claim}
 use Rattle.board.specs.declared.Identity.{Identity}
 use Rattle.board.specs.declared.Place.{Place}
-use Rattle.board.specs.declared.Posted.{Posted}
-use Rattle.board.specs.declared.Spot.{Spot}
 use Rattle.board.proofs.PaddedLaws.{padded-held}
-use Rattle.board.proofs.DistinctLaws.{same-identity-is, same-identity-refl, all-set, distinct-two, distinct-set}
-use Rattle.board.proofs.SettleLaws.{spot-within}
+use Rattle.board.proofs.DistinctLaws.{same-identity-is, all-set, distinct-two, distinct-set}
 use Rattle.board.proofs.ClaimLaws.{named-good, own-good}
 
 -- "`Board::new()` is good."

@@ -1,23 +1,22 @@
 -- A sequence padded with spaces to three characters, and back.
 -- Assumes nothing.
 use mathlib.Core.Bool.{Bool, true, false}
-use mathlib.Core.List.{List, [], _∷_, _++_}
+use mathlib.Core.List.{List, [], _∷_}
 use mathlib.Core.Path.{_≡_, refl, sym, ap, _∙_}
-use Prim.Native.Nat.{ℕ, zero, suc, _+_, _*_, _/_, _%_, _≤_, _<_}
+use Prim.Native.Nat.{ℕ, _+_, _*_, _/_, _%_, _≤_}
 use native.Mathlib.Omega.{arith}
 use native.Mathlib.Nat.{not-suc-le-zero, le-of-suc-le-suc}
-use lib.Dec.{eqb, ltb, leb}
+use lib.Dec.{eqb, ltb}
 use lib.ListN.{length, take}
 use borrow.Author.Tests.{eq-eqb, ne-eqb, eqb-true, lt-ltb, le-leb}
 use Rattle.lists.specs.Choice.{both}
 use Rattle.lists.specs.Lists.{indexOf, allOf}
-use Rattle.lists.specs.Base.{worth, worthAfter, places}
+use Rattle.lists.specs.Base.{worthAfter, places}
 use Rattle.lists.proofs.Choice.{both-left, both-right, both-true, both-three, both-four, either-cases}
 use Rattle.lists.proofs.Lists.{all-weaken}
 use Rattle.lists.proofs.Base.{places-worth}
 use Rattle.words.specs.Bytes.{between, letter, digit}
 use Rattle.words.proofs.Ranges.{between-low, between-high}
-use Rattle.figures.specs.Letters.{inLetters}
 use Rattle.figures.specs.Figures.{inFigures}
 use Rattle.figures.proofs.FigureLaws.{length-inFigures, inFigures-digits}
 use Rattle.figures.proofs.Kept.{reads-spelled}

@@ -1,21 +1,20 @@
 -- The tests of a place, in the shapes that the code's returns ask for.
 -- Assumes nothing.
-use mathlib.Core.Bool.{Bool, true, false, not}
+use mathlib.Core.Bool.{Bool, false}
 use mathlib.Core.Path.{_≡_, refl, sym, _∙_}
 use Prim.Native.Nat.{ℕ, _+_, _-_, _≤_, _<_}
 use native.Mathlib.Omega.{arith}
-use lib.Dec.{leb, ltb, eqb}
+use lib.Dec.{leb, ltb}
 use borrow.Author.Tests.{lt-ltb, le-ltb, le-leb, lt-leb, leb-true, leb-false}
-use Rattle.lists.specs.Choice.{pick, both, either}
+use Rattle.lists.specs.Choice.{both}
 use Rattle.lists.proofs.Choice.{by, both-false-right}
 use Rattle.figures.specs.Letters.{goodLetters}
-use Rattle.headings.specs.Headings.{typeWords, goodType, goodCorrection}
+use Rattle.headings.specs.Headings.{typeWords, goodType}
 use Rattle.calendar.specs.Gregorian.{never}
 use Rattle.calendar.specs.Instants.{limitOf}
 use Rattle.board.specs.Padded.{heldSequence}
-use Rattle.board.specs.Places.{sameIdentity, noIdentity, noPlace, emptyPlace, heldIdentity, heldCorrection, heldPlace, goodPlace}
+use Rattle.board.specs.Places.{heldIdentity}
 use Rattle.board.specs.declared.Identity.{Identity}
-use Rattle.board.specs.declared.Place.{Place}
 
 -- the length of a period, by what is left of its end
 pub short-enough : (start end limit : ℕ) → start < end → leb (end - start) limit ≡ leb end (start + limit)

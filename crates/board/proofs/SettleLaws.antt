@@ -2,20 +2,20 @@
 -- Assumes nothing.
 use mathlib.Core.Bool.{Bool, true, false, not}
 use mathlib.Core.List.{List}
-use mathlib.Core.Path.{_≡_, refl, sym, ap, _∙_}
+use mathlib.Core.Path.{_≡_, sym, ap, _∙_}
 use Prim.Native.Nat.{ℕ, _≤_, _<_}
 use native.Mathlib.Omega.{arith}
-use lib.Dec.{leb, ltb, eqb}
+use lib.Dec.{leb, ltb}
 use lib.ListN.{length, getD, set}
 use borrow.Author.Tests.{le-leb, lt-leb, lt-ltb, le-ltb, eq-eqb, ne-eqb, ltb-true}
-use Rattle.lists.specs.Choice.{pick, both}
+use Rattle.lists.specs.Choice.{both}
 use Rattle.lists.specs.Lists.{indexOf}
-use Rattle.lists.proofs.Choice.{by, clash}
+use Rattle.lists.proofs.Choice.{by}
 use Rattle.message.specs.declared.Record.{Record}
 use Rattle.board.specs.Places.{noPlace, emptyPlace}
 use Rattle.board.specs.Boards.{refusalAt}
 use Rattle.board.specs.Claims.{claimOf}
-use Rattle.board.specs.Posts.{kept, dropped, holds, objection, spotOf, Finds, refused, accepted, placeAt, settled, claimedOn, postOf}
+use Rattle.board.specs.Posts.{kept, dropped, holds, objection, spotOf, Finds, placeAt, settled, claimedOn, postOf}
 use Rattle.board.specs.declared.Board.{Board}
 use Rattle.board.specs.declared.Claim.{Claim}
 use Rattle.board.specs.declared.Place.{Place}

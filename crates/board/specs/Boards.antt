@@ -20,6 +20,7 @@ placeCount = 64
 abbrev pub inRange : ℕ → Bool
 inRange clock = between 1440 52591679 clock
 
+-- a place of another identity
 abbrev pub differs : Place → Place → Bool
 differs p q = not (sameIdentity (p .identity) (q .identity))
 
@@ -32,6 +33,7 @@ distinct (p ∷ ps) = both (either (emptyPlace p) (allOf (differs p) ps)) (disti
 unfoldable pub goodPlaces : ℕ → List Place → Bool
 goodPlaces clock ps = both (eqb (length ps) placeCount) (allOf (goodPlace clock) ps)
 
+-- "A good board has clock 0 or one in range; each held place has …; no identity is held twice."
 unfoldable pub goodBoard : Board → Bool
 goodBoard b = both (either (eqb (b .clock) 0) (inRange (b .clock))) (both (goodPlaces (b .clock) (b .places)) (distinct (b .places)))
 

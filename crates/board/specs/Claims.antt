@@ -19,6 +19,7 @@ use Rattle.board.specs.declared.Claim.{Claim}
 use Rattle.board.specs.declared.Identity.{Identity}
 use Rattle.board.specs.declared.Place.{Place}
 
+-- refused by a number, and a place asked for
 abbrev pub unclaimed : ℕ → Claim
 unclaimed number = record { answer = number; place = noPlace }
 
@@ -55,6 +56,7 @@ timed clock r start end (Test n) = unclaimed 15
 timed clock r start end (Cancellation s from) = cancels clock r s from end
 timed clock r start end Reported = ending clock end (reportPlace r start end)
 
+-- "15 a test"
 abbrev pub isTest : Form → Bool
 isTest NoForm = false
 isTest (Test n) = true
@@ -68,6 +70,7 @@ startAt clock r = startOf clock (r .line .valid .from)
 abbrev pub endAt : ℕ → Record → ℕ
 endAt clock r = endOf (r .heading .designator .kind) (startAt clock r) (r .line .valid .to)
 
+-- "13; 15 a test; 18 no start; 19 no end, or no start of a target; 20 end at or before the clock", in this order
 unfoldable pub claimOf : ℕ → Record → Claim
 claimOf clock r =
     pick (not (good r)) (unclaimed 13)

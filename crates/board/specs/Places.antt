@@ -1,7 +1,7 @@
 -- 01, "Identity: type, area, sequence as written, start, end. A board has 64 places, each empty (all zero) or holding an identity, a
 -- correction and a mark."
 -- Assumes nothing.
-use mathlib.Core.Bool.{Bool, true, false, not}
+use mathlib.Core.Bool.{Bool, false, not}
 use Prim.Native.Nat.{ℕ, _+_}
 use lib.Dec.{leb, ltb, eqb}
 use Rattle.lists.specs.Choice.{both, either}
@@ -19,6 +19,7 @@ sameIdentity a b =
     both (eqb (a .kind) (b .kind))
     (both (eqb (a .area) (b .area)) (both (eqb (a .sequence) (b .sequence)) (both (eqb (a .start) (b .start)) (eqb (a .end) (b .end)))))
 
+-- all zero
 abbrev pub noIdentity : Identity
 noIdentity = record { kind = 0; area = 0; sequence = 0; start = 0; end = 0 }
 
@@ -39,8 +40,10 @@ heldIdentity clock i =
 unfoldable pub heldCorrection : Bool → ℕ → Bool
 heldCorrection marked c = either (eqb c 0) (both (not marked) (goodCorrection c))
 
+-- "each held place has …", on a board of that clock
 unfoldable pub heldPlace : ℕ → Place → Bool
 heldPlace clock p = both (heldIdentity clock (p .identity)) (heldCorrection (p .marked) (p .correction))
 
+-- "each empty (all zero) or holding an identity, a correction and a mark"
 unfoldable pub goodPlace : ℕ → Place → Bool
 goodPlace clock p = either (emptyPlace p) (heldPlace clock p)

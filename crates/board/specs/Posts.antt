@@ -28,6 +28,7 @@ kept clock p = pick (leb (p .identity .end) clock) noPlace p
 unfoldable pub dropped : ℕ → List Place → List Place
 dropped clock ps = map (kept clock) ps
 
+-- the place holds the identity
 abbrev pub holds : Identity → Place → Bool
 holds i p = sameIdentity i (p .identity)
 
@@ -46,7 +47,7 @@ spotOf ps p =
     (record { answer = objection (getD ps (indexOf (holds (p .identity)) ps) noPlace) p; at = indexOf (holds (p .identity)) ps })
     (record { answer = pick (ltb (indexOf emptyPlace ps) (length ps)) 0 23; at = indexOf emptyPlace ps })
 
--- the same as the code's promise: where nothing speaks against it, the spot is one of the 64
+-- what `spot_of` promises: where nothing speaks against it, the spot is one of the 64
 pub record Finds (ps : List Place) (p : Place) (s : Spot) : Type 0 where
   pub says : s ≡ spotOf ps p
   pub within : s .answer ≡ 0 → s .at < placeCount
@@ -55,17 +56,22 @@ pub record Finds (ps : List Place) (p : Place) (s : Spot) : Type 0 where
 abbrev pub refused : ℕ → Board → Posted
 refused number b = record { answer = number; board = b }
 
+-- "An accepted post sets the board's clock"
 abbrev pub accepted : ℕ → List Place → Posted
 accepted clock ps = record { answer = 0; board = record { clock = clock; places = ps } }
 
+-- the place is set at its spot, or refused: "22 …; 21 …; 23 …"
 unfoldable pub placeAt : Board → ℕ → Place → List Place → Spot → Posted
 placeAt b clock p ps s = pick (eqb (s .answer) 0) (accepted clock (set ps (s .at) p)) (refused (s .answer) b)
 
+-- "first drops places whose end is at or before it"
 unfoldable pub settled : Board → ℕ → Place → Posted
 settled b clock p = placeAt b clock p (dropped clock (b .places)) (spotOf (dropped clock (b .places)) p)
 
+-- what the message asks for, or its refusal: "13; 15 …; 18 …; 19 …; 20 …"
 unfoldable pub claimedOn : Board → ℕ → Claim → Posted
 claimedOn b clock c = pick (eqb (c .answer) 0) (settled b clock (c .place)) (refused (c .answer) b)
 
+-- "Post: 36 not a good board; 16 clock outside its range; 17 clock before the board's; 13; 15 …; 18 …; 19 …; 20 …; 22 …; 21 …; 23 …", in this order
 unfoldable pub postOf : Board → ℕ → Record → Posted
 postOf b clock r = pick (eqb (refusalAt b clock) 0) (claimedOn b clock (claimOf clock r)) (refused (refusalAt b clock) b)

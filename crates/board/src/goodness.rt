@@ -1,7 +1,7 @@
 // The test of a good board.
 ghost use mathlib.Core.Path.{_≡_};
 ghost use Prim.Native.Nat.{_<_, _+_};
-ghost use lib.ListN.{drop, getD};
+ghost use lib.ListN.{drop};
 ghost use Rattle.lists.specs.Lists.{allOf};
 ghost use Rattle.board.specs.Boards.{inRange, differs, distinct, goodPlaces};
 use crate::Board;

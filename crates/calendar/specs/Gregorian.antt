@@ -48,5 +48,6 @@ unfoldable pub dayFrom : ℕ → ℕ → ℕ → ℕ
 dayFrom zero m day = 0
 dayFrom (suc k) m day = pick (ltb day (monthLength m)) (day + 1) (dayFrom k (suc m) (day - monthLength m))
 
+-- what day of its month a day of the hundred years is
 unfoldable pub dayOfMonth : ℕ → ℕ
 dayOfMonth day = dayFrom months 0 day

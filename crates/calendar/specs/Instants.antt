@@ -24,6 +24,7 @@ unfoldable pub onDay : Group → ℕ → ℕ → ℕ → ℕ
 onDay g low high day =
     pick (both (both (leb low (minuteOn g day)) (ltb (minuteOn g day) high)) (matches g (minuteOn g day))) (minuteOn g day) never
 
+-- the first of two that is an instant
 abbrev pub orElse : ℕ → ℕ → ℕ
 orElse a b = pick (ltb a never) a b
 

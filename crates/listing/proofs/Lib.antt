@@ -1,3 +1,4 @@
+pub mod TextOrder
 pub mod OrderLaws
 pub mod RowLaws
 pub mod Loops

@@ -128,7 +128,7 @@ all-listed b time buffer rows number {count} {after} e z held h l =
     (λ i. record { answer = 0; count = all .0 i; buffer = all .1 i })
 
 -- 01, "Sample posted then; listed at that minute, in hex: `01 00C0FE5E 02 51424242 312020 20 00C0FE5E 00C0FF4E`. At 12,648,269 one message; at
--- 12,648,270 only kind 1."
+-- 12,648,270 only kind 1." Here of the place that the sample takes, given by hand; crate replay posts it.
 
 abbrev sample : Place
 sample =

@@ -4,7 +4,7 @@ ghost use Prim.Native.Nat.{_+_, _*_, _≤_};
 ghost use lib.ListN.{length};
 ghost use Rattle.pens.specs.Pens.{Puts};
 ghost use Rattle.listing.specs.Holding.{rowsIn};
-ghost use Rattle.listing.specs.Listings.{timeRecord, correctionByte, messageRecord, records, listOf, told, Lists};
+ghost use Rattle.listing.specs.Listings.{timeRecord, correctionByte, messageRecord, listOf, told, Lists};
 
 mod ordering;
 mod rows;

@@ -1,69 +1,48 @@
+-- `claim_of` meets its contract. Assumes nothing.
 use Rattle.board.proofs.ClaimLaws.{bad-record, a-test, no-start, no-end, a-claim, good-known}
 use borrow.Author.Needs.{needs}
 use Rattle.board.proofs.claims.claim_of.Statement.{statement}
 use Rattle.board.proofs.claims.claim_of.Tie as tie
-use Rattle.board.proofs.claims.claim_of.Reads as reads
-use Rattle.board.proofs.claims.claim_of.Lts as lts
-use Rattle.board.proofs.claims.is_test.Reads as is-test-reads
-use Rattle.board.proofs.claims.timed_claim.Reads as timed-claim-reads
-use Rattle.board.proofs.claims.unclaimed_by.Reads as unclaimed-by-reads
-use Rattle.calendar.proofs.end_of.Reads as end-of-reads
-use Rattle.calendar.proofs.start_of.Reads as start-of-reads
-use Rattle.message.proofs.is_good.Reads as is-good-reads
 
--- src/claims.rt:116:9
 is-good-requires : tie.Need-is-good-requires
 is-good-requires c κs = search needs
 
--- src/claims.rt:117:9
 unclaimed-by-requires : tie.Need-unclaimed-by-requires
 unclaimed-by-requires c κs = search needs
 
--- src/claims.rt:117:9
 returns : tie.Need-returns
 returns c = search bad-record
 
--- src/claims.rt:120:8
 is-test-requires : tie.Need-is-test-requires
 is-test-requires c κs = search needs
 
--- src/claims.rt:121:9
 unclaimed-by-requires-2 : tie.Need-unclaimed-by-requires-2
 unclaimed-by-requires-2 c κs = search needs
 
--- src/claims.rt:121:9
 returns-2 : tie.Need-returns-2
 returns-2 c = search a-test
 
--- src/claims.rt:126:9
 start-of-requires : tie.Need-start-of-requires
 start-of-requires c κs = search needs
 
--- src/claims.rt:128:9
 unclaimed-by-requires-3 : tie.Need-unclaimed-by-requires-3
 unclaimed-by-requires-3 c κs = search needs
 
--- src/claims.rt:128:9
 returns-3 : tie.Need-returns-3
 returns-3 c = search no-start
 
--- src/claims.rt:130:9
 end-of-requires : tie.Need-end-of-requires
 end-of-requires c κs = search needs
 
--- src/claims.rt:132:9
 unclaimed-by-requires-4 : tie.Need-unclaimed-by-requires-4
 unclaimed-by-requires-4 c κs = search needs
 
--- src/claims.rt:132:9
 returns-4 : tie.Need-returns-4
 returns-4 c = search no-end
 
--- src/claims.rt:134:5
 timed-claim-requires : tie.Need-timed-claim-requires
 timed-claim-requires c κs = search good-known
 
--- src/claims.rt:113:1
 returns-5 : tie.Need-returns-5
 returns-5 c = search a-claim
 

@@ -1,58 +1,42 @@
+-- `timed_claim` meets its contract. Assumes nothing.
 use Rattle.board.proofs.ClaimLaws.{timed-none, timed-test, timed-cancels, timed-reports, named-good, own-good}
 use borrow.Author.Needs.{needs}
 use Rattle.board.proofs.claims.timed_claim.Statement.{statement}
 use Rattle.board.proofs.claims.timed_claim.Tie as tie
-use Rattle.board.proofs.claims.timed_claim.Reads as reads
-use Rattle.board.proofs.claims.timed_claim.Lts as lts
-use Rattle.board.proofs.claims.cancellation_claim.Reads as cancellation-claim-reads
-use Rattle.board.proofs.claims.report_claim.Reads as report-claim-reads
-use Rattle.board.proofs.claims.unclaimed_by.Reads as unclaimed-by-reads
 
--- src/claims.rt:95:25
 enum-told : tie.Need-enum-told
 enum-told c = search needs
 
--- src/claims.rt:95:25
 unclaimed-by-requires : tie.Need-unclaimed-by-requires
 unclaimed-by-requires c κs = search needs
 
--- src/claims.rt:96:26
 enum-told-2 : tie.Need-enum-told-2
 enum-told-2 c = search needs
 
--- src/claims.rt:96:26
 unclaimed-by-requires-2 : tie.Need-unclaimed-by-requires-2
 unclaimed-by-requires-2 c κs = search needs
 
--- src/claims.rt:97:28
 enum-known-form : tie.Need-enum-known-form
 enum-known-form c = search needs
 
--- src/claims.rt:97:40
 cancellation-claim-requires : tie.Need-cancellation-claim-requires
 cancellation-claim-requires c κs = search named-good
 
--- src/claims.rt:98:27
 enum-told-3 : tie.Need-enum-told-3
 enum-told-3 c = search needs
 
--- src/claims.rt:98:27
 report-claim-requires : tie.Need-report-claim-requires
 report-claim-requires c κs = search own-good
 
--- src/claims.rt:89:1
 returns : tie.Need-returns
 returns c = search timed-none
 
--- src/claims.rt:89:1
 returns-2 : tie.Need-returns-2
 returns-2 c = search timed-test
 
--- src/claims.rt:89:1
 returns-3 : tie.Need-returns-3
 returns-3 c = search timed-cancels
 
--- src/claims.rt:89:1
 returns-4 : tie.Need-returns-4
 returns-4 c = search timed-reports
 

@@ -1,20 +1,17 @@
+-- `differ_from` meets its contract. Assumes nothing.
 use mathlib.Core.Bool.{Bool, not}
 use mathlib.Core.Path.{_≡_, refl, sym, ap, _∙_}
-use Prim.Native.Nat.{_-_, _≤_, _+_}
+use Prim.Native.Nat.{_-_}
 use native.Mathlib.Omega.{arith}
-use lib.ListN.{length, drop, getD, take}
+use lib.ListN.{length, drop}
 use borrow.Author.Needs.{needs}
-use borrow.Author.Tests.{not-true, not-false}
-use Rattle.lists.specs.Lists.{allOf, indexOf, indexFrom}
-use Rattle.lists.proofs.Lists.{all-past, all-stop, all-end, from-here, from-past, from-none, from-zero}
-use Rattle.board.specs.Places.{noPlace, goodPlace, sameIdentity, emptyPlace}
+use Rattle.lists.specs.Lists.{allOf}
+use Rattle.lists.proofs.Lists.{all-past, all-stop, all-end}
+use Rattle.board.specs.Places.{noPlace, sameIdentity}
 use Rattle.board.specs.declared.Identity.{Identity}
 use Rattle.board.specs.declared.Place.{Place}
 use Rattle.board.proofs.goodness.differ_from.Statement.{statement}
 use Rattle.board.proofs.goodness.differ_from.Tie as tie
-use Rattle.board.proofs.goodness.differ_from.Reads as reads
-use Rattle.board.proofs.goodness.differ_from.Lts as lts
-use Rattle.board.proofs.places.same_identity.Reads as same-identity-reads
 
 -- a place of another identity
 abbrev apart : Identity → Place → Bool
@@ -26,39 +23,30 @@ Inv-loop start places identity i₀ i = (length places ≡ 64) × (allOf (apart 
 abbrev μ-loop : tie.MeasureT-loop
 μ-loop start places identity i₀ i = 64 - i
 
--- src/goodness.rt:42:5
 loop-holds : tie.Need-loop-holds Inv-loop μ-loop
 loop-holds c = (search needs, refl)
 
--- src/goodness.rt:43:17
 mul-q : tie.Need-mul-q Inv-loop μ-loop
 mul-q c = omega arith
 
--- src/goodness.rt:43:17
 array-copy-out-q : tie.Need-array-copy-out-q Inv-loop μ-loop
 array-copy-out-q c = omega arith
 
--- src/goodness.rt:45:12
 same-identity-requires : tie.Need-same-identity-requires Inv-loop μ-loop
 same-identity-requires c κs = tt
 
--- src/goodness.rt:46:13
 returns : tie.Need-returns Inv-loop μ-loop
 returns c = sym (c .before .before .before .before .before .loop .inv .1 ∙ all-stop (apart (c .before .before .before .before .before .before .before .args .p .identity)) (c .before .before .before .before .before .before .before .args .t2) (c .before .before .before .before .before .loop .i) noPlace (omega arith) (ap not (sym (c .before .same-identity .ensures) ∙ c .if1 .taken)))
 
--- src/goodness.rt:48:9
 add-i : tie.Need-add-i Inv-loop μ-loop
 add-i c = omega arith
 
--- src/goodness.rt:42:5
 loop-less : tie.Need-loop-less Inv-loop μ-loop
 loop-less c = omega arith
 
--- src/goodness.rt:42:5
 loop-again : tie.Need-loop-again Inv-loop μ-loop
 loop-again c = (search needs, c .before .before .before .before .before .loop .inv .1 ∙ all-past (apart (c .before .before .before .before .before .before .before .args .p .identity)) (c .before .before .before .before .before .before .before .args .t2) (c .before .before .before .before .before .loop .i) noPlace (omega arith) (ap not (sym (c .before .same-identity .ensures) ∙ c .if1 .left)))
 
--- src/goodness.rt:37:1
 returns-2 : tie.Need-returns-2 Inv-loop μ-loop
 returns-2 c = sym (c .before .loop .inv .1 ∙ all-end (apart (c .before .before .before .args .p .identity)) (c .before .before .before .args .t2) (c .before .loop .i) (omega arith))
 

@@ -1,8 +1,9 @@
+-- `good_places` meets its contract. Assumes nothing.
 use Rattle.board.proofs.BoardLaws.{places-all}
 use mathlib.Core.Path.{_≡_, refl, sym, _∙_}
 use Prim.Native.Nat.{_-_, _≤_}
 use native.Mathlib.Omega.{arith}
-use lib.ListN.{length, drop, getD}
+use lib.ListN.{length, drop}
 use borrow.Author.Needs.{needs}
 use borrow.Author.Tests.{not-true, not-false}
 use Rattle.lists.specs.Lists.{allOf}
@@ -10,9 +11,6 @@ use Rattle.lists.proofs.Lists.{all-past, all-stop, all-end}
 use Rattle.board.specs.Places.{noPlace, goodPlace}
 use Rattle.board.proofs.goodness.good_places.Statement.{statement}
 use Rattle.board.proofs.goodness.good_places.Tie as tie
-use Rattle.board.proofs.goodness.good_places.Reads as reads
-use Rattle.board.proofs.goodness.good_places.Lts as lts
-use Rattle.board.proofs.places.good_place.Reads as good-place-reads
 
 abbrev Inv-loop : tie.InvT-loop
 Inv-loop clock places i₀ i = (length places ≡ 64) × (i ≤ 64) × (allOf (goodPlace clock) places ≡ allOf (goodPlace clock) (drop i places))
@@ -20,39 +18,30 @@ Inv-loop clock places i₀ i = (length places ≡ 64) × (i ≤ 64) × (allOf (g
 abbrev μ-loop : tie.MeasureT-loop
 μ-loop clock places i₀ i = 64 - i
 
--- src/goodness.rt:27:5
 loop-holds : tie.Need-loop-holds Inv-loop μ-loop
 loop-holds c = (search needs, omega arith, refl)
 
--- src/goodness.rt:28:31
 mul-good-place : tie.Need-mul-good-place Inv-loop μ-loop
 mul-good-place c = omega arith
 
--- src/goodness.rt:28:31
 array-copy-out-good-place : tie.Need-array-copy-out-good-place Inv-loop μ-loop
 array-copy-out-good-place c = omega arith
 
--- src/goodness.rt:28:13
 good-place-requires : tie.Need-good-place-requires Inv-loop μ-loop
 good-place-requires c κs = tt
 
--- src/goodness.rt:29:13
 returns : tie.Need-returns Inv-loop μ-loop
 returns c = places-all _ _ (search needs) (sym (c .before .before .before .before .loop .inv .2 ∙ all-stop (goodPlace (c .before .before .before .before .before .args .clock)) (c .before .before .before .before .before .args .t2) (c .before .before .before .before .loop .i) noPlace (omega arith) (sym (c .before .good-place .ensures) ∙ not-true _ (c .if1 .taken))))
 
--- src/goodness.rt:31:9
 add-i : tie.Need-add-i Inv-loop μ-loop
 add-i c = omega arith
 
--- src/goodness.rt:27:5
 loop-less : tie.Need-loop-less Inv-loop μ-loop
 loop-less c = omega arith
 
--- src/goodness.rt:27:5
 loop-again : tie.Need-loop-again Inv-loop μ-loop
 loop-again c = (search needs, omega arith, c .before .before .before .before .loop .inv .2 ∙ all-past (goodPlace (c .before .before .before .before .before .args .clock)) (c .before .before .before .before .before .args .t2) (c .before .before .before .before .loop .i) noPlace (omega arith) (sym (c .before .good-place .ensures) ∙ not-false _ (c .if1 .left)))
 
--- src/goodness.rt:23:1
 returns-2 : tie.Need-returns-2 Inv-loop μ-loop
 returns-2 c = places-all _ _ (search needs) (sym (c .before .loop .inv .2 ∙ all-end (goodPlace (c .before .before .args .clock)) (c .before .before .args .t2) (c .before .loop .i) (omega arith)))
 

@@ -1,22 +1,17 @@
+-- `before_space` meets its contract. Assumes nothing.
 use Rattle.board.proofs.PaddedLaws.{space-0, space-1, space-2, space-3}
 use Rattle.board.proofs.padding.before_space.Statement.{statement}
 use Rattle.board.proofs.padding.before_space.Tie as tie
-use Rattle.board.proofs.padding.before_space.Reads as reads
-use Rattle.board.proofs.padding.before_space.Lts as lts
 
--- src/padding.rt:56:9
 returns : tie.Need-returns
 returns c = space-0 _ _ _ (c .if1 .taken)
 
--- src/padding.rt:59:9
 returns-2 : tie.Need-returns-2
 returns-2 c = space-1 _ _ _ (c .before .if1 .left) (c .if2 .taken)
 
--- src/padding.rt:62:9
 returns-3 : tie.Need-returns-3
 returns-3 c = space-2 _ _ _ (c .before .before .if1 .left) (c .before .if2 .left) (c .if3 .taken)
 
--- src/padding.rt:52:1
 returns-4 : tie.Need-returns-4
 returns-4 c = space-3 _ _ _ (c .before .before .if1 .left) (c .before .if2 .left) (c .if3 .left)
 

@@ -1,65 +1,48 @@
+-- `padded` meets its contract. Assumes nothing.
 use Rattle.board.proofs.PaddedLaws.{bare-one, bare-two, bare-three, lettered-one, lettered-two}
 use borrow.Author.Needs.{needs}
 use Rattle.board.proofs.padding.padded.Statement.{statement}
 use Rattle.board.proofs.padding.padded.Tie as tie
-use Rattle.board.proofs.padding.padded.Reads as reads
-use Rattle.board.proofs.padding.padded.Lts as lts
-use Rattle.board.proofs.padding.figure.Reads as figure-reads
-use Rattle.board.proofs.padding.three.Reads as three-reads
 
--- src/padding.rt:30:9
 figure-requires : tie.Need-figure-requires
 figure-requires c κs = search needs
 
--- src/padding.rt:31:9
 figure-requires-2 : tie.Need-figure-requires-2
 figure-requires-2 c κs = search needs
 
--- src/padding.rt:34:13
 three-requires : tie.Need-three-requires
 three-requires c κs = search needs
 
--- src/padding.rt:34:13
 returns : tie.Need-returns
 returns c = search bare-one
 
--- src/padding.rt:37:13
 three-requires-2 : tie.Need-three-requires-2
 three-requires-2 c κs = search needs
 
--- src/padding.rt:37:13
 returns-2 : tie.Need-returns-2
 returns-2 c = search bare-two
 
--- src/padding.rt:39:22
 figure-requires-3 : tie.Need-figure-requires-3
 figure-requires-3 c κs = search needs
 
--- src/padding.rt:39:9
 three-requires-3 : tie.Need-three-requires-3
 three-requires-3 c κs = search needs
 
--- src/padding.rt:39:9
 returns-3 : tie.Need-returns-3
 returns-3 c = search bare-three
 
--- src/padding.rt:41:18
 cast-letter : tie.Need-cast-letter
 cast-letter c = search needs
 
--- src/padding.rt:43:9
 three-requires-4 : tie.Need-three-requires-4
 three-requires-4 c κs = search needs
 
--- src/padding.rt:43:9
 returns-4 : tie.Need-returns-4
 returns-4 c = search lettered-one
 
--- src/padding.rt:45:5
 three-requires-5 : tie.Need-three-requires-5
 three-requires-5 c κs = search needs
 
--- src/padding.rt:26:1
 returns-5 : tie.Need-returns-5
 returns-5 c = search lettered-two
 

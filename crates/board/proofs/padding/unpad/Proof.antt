@@ -1,3 +1,4 @@
+-- `unpad` meets its contract. Assumes nothing.
 use mathlib.Core.List.{[], _∷_}
 use mathlib.Core.Path.{sym, ap, _∙_}
 use Prim.Native.Nat.{_/_, _%_}
@@ -10,40 +11,28 @@ use Rattle.board.proofs.PaddedLaws.{unpads}
 use borrow.Author.Needs.{needs}
 use Rattle.board.proofs.padding.unpad.Statement.{statement}
 use Rattle.board.proofs.padding.unpad.Tie as tie
-use Rattle.board.proofs.padding.unpad.Reads as reads
-use Rattle.board.proofs.padding.unpad.Lts as lts
-use Rattle.board.proofs.padding.before_space.Reads as before-space-reads
-use Rattle.headings.proofs.sequence_word.Reads as sequence-word-reads
 
--- src/padding.rt:71:13
 cast-a : tie.Need-cast-a
 cast-a c = search needs
 
--- src/padding.rt:72:13
 cast-b : tie.Need-cast-b
 cast-b c = search needs
 
--- src/padding.rt:73:13
 cast-c : tie.Need-cast-c
 cast-c c = search needs
 
--- src/padding.rt:74:9
 before-space-requires : tie.Need-before-space-requires
 before-space-requires c κs = search needs
 
--- src/padding.rt:76:19
 array-share-prefix-text : tie.Need-array-share-prefix-text
 array-share-prefix-text c = omega (arith, c .before-space .ensures, index-within (eqb 32) (c .before .args .n / 256 / 256 % 256 ∷ c .before .args .n / 256 % 256 ∷ c .before .args .n % 256 ∷ []))
 
--- src/padding.rt:76:19
 slice-aggregate-sequence-word : tie.Need-slice-aggregate-sequence-word
 slice-aggregate-sequence-word c = sym (length-take-le _ _ (omega (arith, c .before .before-space .ensures, index-within (eqb 32) (c .before .before .args .n / 256 / 256 % 256 ∷ c .before .before .args .n / 256 % 256 ∷ c .before .before .args .n % 256 ∷ []))))
 
--- src/padding.rt:76:5
 sequence-word-requires : tie.Need-sequence-word-requires
 sequence-word-requires c κs = search needs
 
--- src/padding.rt:68:1
 returns : tie.Need-returns
 returns c = c .sequence-word .ensures ∙ ap sequenceOf (unpads _ (c .before .before .before-space .ensures))
 

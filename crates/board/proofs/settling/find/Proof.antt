@@ -1,20 +1,15 @@
-use mathlib.Core.Bool.{Bool, not}
-use mathlib.Core.List.{_++_, map}
-use mathlib.Core.Path.{_≡_, refl, sym, ap, _∙_}
-use Prim.Native.Nat.{_-_, _≤_, _+_}
+-- `find` meets its contract. Assumes nothing.
+use mathlib.Core.Path.{_≡_, sym, _∙_}
+use Prim.Native.Nat.{_-_, _≤_}
 use native.Mathlib.Omega.{arith}
-use lib.ListN.{length, drop, getD, take}
+use lib.ListN.{length}
 use borrow.Author.Needs.{needs}
-use borrow.Author.Tests.{not-true, not-false}
-use Rattle.lists.specs.Lists.{allOf, indexOf, indexFrom}
-use Rattle.lists.proofs.Lists.{all-past, all-stop, all-end, from-here, from-past, from-none, from-zero}
-use Rattle.board.specs.Places.{noPlace, goodPlace, sameIdentity, emptyPlace}
-use Rattle.board.specs.Posts.{kept, dropped, holds}
+use Rattle.lists.specs.Lists.{indexOf, indexFrom}
+use Rattle.lists.proofs.Lists.{from-here, from-past, from-none, from-zero}
+use Rattle.board.specs.Places.{noPlace}
+use Rattle.board.specs.Posts.{holds}
 use Rattle.board.proofs.settling.find.Statement.{statement}
 use Rattle.board.proofs.settling.find.Tie as tie
-use Rattle.board.proofs.settling.find.Reads as reads
-use Rattle.board.proofs.settling.find.Lts as lts
-use Rattle.board.proofs.places.same_identity.Reads as same-identity-reads
 
 abbrev Inv-loop : tie.InvT-loop
 Inv-loop i places k₀ k = (length places ≡ 64) × (k ≤ 64) × (indexOf (holds i) places ≡ indexFrom (holds i) k places)
@@ -22,39 +17,30 @@ Inv-loop i places k₀ k = (length places ≡ 64) × (k ≤ 64) × (indexOf (hol
 abbrev μ-loop : tie.MeasureT-loop
 μ-loop i places k₀ k = 64 - k
 
--- src/settling.rt:41:5
 loop-holds : tie.Need-loop-holds Inv-loop μ-loop
 loop-holds c = (search needs, omega arith, sym (from-zero (holds (c .args .i)) (c .args .t2)))
 
--- src/settling.rt:42:17
 mul-p : tie.Need-mul-p Inv-loop μ-loop
 mul-p c = omega arith
 
--- src/settling.rt:42:17
 array-copy-out-p : tie.Need-array-copy-out-p Inv-loop μ-loop
 array-copy-out-p c = omega arith
 
--- src/settling.rt:44:12
 same-identity-requires : tie.Need-same-identity-requires Inv-loop μ-loop
 same-identity-requires c κs = tt
 
--- src/settling.rt:45:13
 returns : tie.Need-returns Inv-loop μ-loop
 returns c = sym (c .before .before .before .before .before .loop .inv .2 ∙ from-here (holds (c .before .before .before .before .before .before .args .i)) (c .before .before .before .before .before .before .args .t2) (c .before .before .before .before .before .loop .k) noPlace (omega arith) (sym (c .before .same-identity .ensures) ∙ c .if1 .taken))
 
--- src/settling.rt:47:9
 add-k : tie.Need-add-k Inv-loop μ-loop
 add-k c = omega arith
 
--- src/settling.rt:41:5
 loop-less : tie.Need-loop-less Inv-loop μ-loop
 loop-less c = omega arith
 
--- src/settling.rt:41:5
 loop-again : tie.Need-loop-again Inv-loop μ-loop
 loop-again c = (search needs, omega arith, c .before .before .before .before .before .loop .inv .2 ∙ from-past (holds (c .before .before .before .before .before .before .args .i)) (c .before .before .before .before .before .before .args .t2) (c .before .before .before .before .before .loop .k) noPlace (omega arith) (sym (c .before .same-identity .ensures) ∙ c .if1 .left))
 
--- src/settling.rt:37:1
 returns-2 : tie.Need-returns-2 Inv-loop μ-loop
 returns-2 c = sym (c .before .loop .inv .2 ∙ from-none (holds (c .before .before .args .i)) (c .before .before .args .t2) (c .before .loop .k) (omega arith))
 

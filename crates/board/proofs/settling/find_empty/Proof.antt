@@ -1,20 +1,14 @@
-use mathlib.Core.Bool.{Bool, not}
-use mathlib.Core.List.{_++_, map}
-use mathlib.Core.Path.{_≡_, refl, sym, ap, _∙_}
-use Prim.Native.Nat.{_-_, _≤_, _+_}
+-- `find_empty` meets its contract. Assumes nothing.
+use mathlib.Core.Path.{_≡_, sym, _∙_}
+use Prim.Native.Nat.{_-_, _≤_}
 use native.Mathlib.Omega.{arith}
-use lib.ListN.{length, drop, getD, take}
+use lib.ListN.{length}
 use borrow.Author.Needs.{needs}
-use borrow.Author.Tests.{not-true, not-false}
-use Rattle.lists.specs.Lists.{allOf, indexOf, indexFrom}
-use Rattle.lists.proofs.Lists.{all-past, all-stop, all-end, from-here, from-past, from-none, from-zero}
-use Rattle.board.specs.Places.{noPlace, goodPlace, sameIdentity, emptyPlace}
-use Rattle.board.specs.Posts.{kept, dropped, holds}
+use Rattle.lists.specs.Lists.{indexOf, indexFrom}
+use Rattle.lists.proofs.Lists.{from-here, from-past, from-none, from-zero}
+use Rattle.board.specs.Places.{noPlace, emptyPlace}
 use Rattle.board.proofs.settling.find_empty.Statement.{statement}
 use Rattle.board.proofs.settling.find_empty.Tie as tie
-use Rattle.board.proofs.settling.find_empty.Reads as reads
-use Rattle.board.proofs.settling.find_empty.Lts as lts
-use Rattle.board.proofs.places.empty_place.Reads as empty-place-reads
 
 abbrev Inv-loop : tie.InvT-loop
 Inv-loop places free₀ free = (length places ≡ 64) × (free ≤ 64) × (indexOf emptyPlace places ≡ indexFrom emptyPlace free places)
@@ -22,39 +16,30 @@ Inv-loop places free₀ free = (length places ≡ 64) × (free ≤ 64) × (index
 abbrev μ-loop : tie.MeasureT-loop
 μ-loop places free₀ free = 64 - free
 
--- src/settling.rt:57:5
 loop-holds : tie.Need-loop-holds Inv-loop μ-loop
 loop-holds c = (search needs, omega arith, sym (from-zero emptyPlace (c .args .t1)))
 
--- src/settling.rt:58:24
 mul-empty-place : tie.Need-mul-empty-place Inv-loop μ-loop
 mul-empty-place c = omega arith
 
--- src/settling.rt:58:24
 array-copy-out-empty-place : tie.Need-array-copy-out-empty-place Inv-loop μ-loop
 array-copy-out-empty-place c = omega arith
 
--- src/settling.rt:58:12
 empty-place-requires : tie.Need-empty-place-requires Inv-loop μ-loop
 empty-place-requires c κs = tt
 
--- src/settling.rt:59:13
 returns : tie.Need-returns Inv-loop μ-loop
 returns c = sym (c .before .before .before .before .loop .inv .2 ∙ from-here emptyPlace (c .before .before .before .before .before .args .t1) (c .before .before .before .before .loop .free) noPlace (omega arith) (sym (c .before .empty-place .ensures) ∙ c .if1 .taken))
 
--- src/settling.rt:61:9
 add-free : tie.Need-add-free Inv-loop μ-loop
 add-free c = omega arith
 
--- src/settling.rt:57:5
 loop-less : tie.Need-loop-less Inv-loop μ-loop
 loop-less c = omega arith
 
--- src/settling.rt:57:5
 loop-again : tie.Need-loop-again Inv-loop μ-loop
 loop-again c = (search needs, omega arith, c .before .before .before .before .loop .inv .2 ∙ from-past emptyPlace (c .before .before .before .before .before .args .t1) (c .before .before .before .before .loop .free) noPlace (omega arith) (sym (c .before .empty-place .ensures) ∙ c .if1 .left))
 
--- src/settling.rt:53:1
 returns-2 : tie.Need-returns-2 Inv-loop μ-loop
 returns-2 c = sym (c .before .loop .inv .2 ∙ from-none emptyPlace (c .before .before .args .t1) (c .before .loop .free) (omega arith))
 

@@ -1,32 +1,24 @@
+-- `object` meets its contract. Assumes nothing.
 use Rattle.board.proofs.SettleLaws.{objects-22, objects-21, corrects-not, objects-not}
 use borrow.Author.Needs.{needs}
 use Rattle.board.proofs.settling.object.Statement.{statement}
 use Rattle.board.proofs.settling.object.Tie as tie
-use Rattle.board.proofs.settling.object.Reads as reads
-use Rattle.board.proofs.settling.object.Lts as lts
-use Rattle.lists.proofs.both.Reads as both-reads
 
--- src/settling.rt:70:8
 both-requires : tie.Need-both-requires
 both-requires c κs = search needs
 
--- src/settling.rt:71:9
 returns : tie.Need-returns
 returns c = search objects-22
 
--- src/settling.rt:74:9
 returns-2 : tie.Need-returns-2
 returns-2 c = search objects-21
 
--- src/settling.rt:76:8
 both-requires-2 : tie.Need-both-requires-2
 both-requires-2 c κs = search needs
 
--- src/settling.rt:77:9
 returns-3 : tie.Need-returns-3
 returns-3 c = search corrects-not
 
--- src/settling.rt:67:1
 returns-4 : tie.Need-returns-4
 returns-4 c = search objects-not
 
