@@ -19,11 +19,11 @@ pub(crate) fn in_range(clock: u32) -> bool
 }
 
 // There are 64 places, and all are good.
-pub(crate) fn good_places(clock: u32, places: [Place; 64]) -> bool
+pub(crate) fn good_places(clock: u32, places: [Place; Board::PLACES]) -> bool
     ensures { λ r. ⌜ r ≡ goodPlaces clock places ⌝ }
 {
     let mut i = 0;
-    while i < 64 {
+    while i < Board::PLACES {
         if !good_place(clock, places[i]) {
             return false;
         }
@@ -33,12 +33,12 @@ pub(crate) fn good_places(clock: u32, places: [Place; 64]) -> bool
 }
 
 // No place from `start` on has the identity of p.
-fn differ_from(p: Place, places: [Place; 64], start: usize) -> bool
+fn differ_from(p: Place, places: [Place; Board::PLACES], start: usize) -> bool
     ensures { λ r. ⌜ r ≡ allOf (differs p) (drop start places) ⌝ }
 {
     let identity = p.identity;
     let mut i = start;
-    while i < 64 {
+    while i < Board::PLACES {
         let q = places[i];
         let other = q.identity;
         if same_identity(identity, other) {
@@ -50,11 +50,11 @@ fn differ_from(p: Place, places: [Place; 64], start: usize) -> bool
 }
 
 // No identity is held twice.
-pub(crate) fn are_distinct(places: [Place; 64]) -> bool
+pub(crate) fn are_distinct(places: [Place; Board::PLACES]) -> bool
     ensures { λ r. ⌜ r ≡ distinct places ⌝ }
 {
     let mut i = 0;
-    while i < 64 {
+    while i < Board::PLACES {
         let p = places[i];
         if !either(empty_place(p), differ_from(p, places, i + 1)) {
             return false;

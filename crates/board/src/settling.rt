@@ -3,6 +3,7 @@ ghost use mathlib.Core.Path.{_≡_};
 ghost use Rattle.lists.specs.Lists.{indexOf};
 ghost use Rattle.board.specs.Places.{emptyPlace};
 ghost use Rattle.board.specs.Posts.{kept, dropped, holds, objection, Finds};
+use crate::Board;
 use crate::Identity;
 use crate::Place;
 use crate::Spot;
@@ -21,12 +22,12 @@ fn kept_at(clock: u32, p: Place) -> Place
 }
 
 // Places whose end is at or before the clock become empty where they stand.
-pub(crate) fn drop_ended(clock: u32, places: [Place; 64]) -> [Place; 64]
+pub(crate) fn drop_ended(clock: u32, places: [Place; Board::PLACES]) -> [Place; Board::PLACES]
     ensures { λ r. ⌜ r ≡ dropped clock places ⌝ }
 {
     let mut left = places;
     let mut i = 0;
-    while i < 64 {
+    while i < Board::PLACES {
         left[i] = kept_at(clock, left[i]);
         i += 1;
     }
@@ -34,11 +35,11 @@ pub(crate) fn drop_ended(clock: u32, places: [Place; 64]) -> [Place; 64]
 }
 
 // The place that holds the identity, or 64.
-fn find(i: Identity, places: [Place; 64]) -> usize
+fn find(i: Identity, places: [Place; Board::PLACES]) -> usize
     ensures { λ r. ⌜ r ≡ indexOf (holds i) places ⌝ }
 {
     let mut k = 0;
-    while k < 64 {
+    while k < Board::PLACES {
         let p = places[k];
         let other = p.identity;
         if same_identity(i, other) {
@@ -50,11 +51,11 @@ fn find(i: Identity, places: [Place; 64]) -> usize
 }
 
 // The lowest empty place, or 64.
-fn find_empty(places: [Place; 64]) -> usize
+fn find_empty(places: [Place; Board::PLACES]) -> usize
     ensures { λ r. ⌜ r ≡ indexOf emptyPlace places ⌝ }
 {
     let mut free = 0;
-    while free < 64 {
+    while free < Board::PLACES {
         if empty_place(places[free]) {
             return free;
         }
@@ -80,18 +81,18 @@ fn object(held: Place, p: Place) -> u8
 }
 
 // Where the place goes, or why it does not.
-pub(crate) fn spot_of(places: [Place; 64], p: Place) -> Spot
+pub(crate) fn spot_of(places: [Place; Board::PLACES], p: Place) -> Spot
     ensures { λ r. ⌜ Finds places p r ⌝ }
 {
     let identity = p.identity;
     let at = find(identity, places);
-    if at < 64 {
+    if at < Board::PLACES {
         let held = places[at];
         let answer = object(held, p);
         return Spot { answer, at };
     }
     let free = find_empty(places);
-    if free < 64 {
+    if free < Board::PLACES {
         return Spot {
             answer: 0,
             at: free,
