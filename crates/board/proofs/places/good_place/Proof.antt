@@ -21,7 +21,8 @@ either-requires c κs = search needs
 
 returns : tie.Need-returns
 unfolding goodPlace heldPlace
-returns c = cc
+returns c =
+    rw (c .either .ensures, c .before .empty-place .ensures, c .before .before .both .ensures, c .before .before .before .held-correction .ensures, c .before .before .before .before .held-identity .ensures)
 
 pub good-place-spec : {M : Type 1} → statement M
 good-place-spec =
