@@ -1,0 +1,4 @@
+pub mod Calls
+pub mod Accepted
+pub mod Answers
+pub mod Listings

@@ -1,0 +1,1 @@
+// No code: the promises are about the contracts of the functions of every library.
