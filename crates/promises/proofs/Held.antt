@@ -63,7 +63,7 @@ one-place {ps} d x y e = sym (x .there) ∙ (ap (λ (k : ℕ). getD ps k noPlace
 
 -- Dropping.
 
-kept-some : (clock : ℕ) (q : Place) → emptyPlace (kept clock q) ≡ false → (kept clock q ≡ q) × (clock < q .identity .end)
+pub kept-some : (clock : ℕ) (q : Place) → emptyPlace (kept clock q) ≡ false → (kept clock q ≡ q) × (clock < q .identity .end)
 kept-some clock q =
     by (leb (q .identity .end) clock)
     (λ t. rw t (λ s. clash (emptyPlace noPlace) no-place-empty s))
@@ -94,7 +94,7 @@ Unheld ps i = (q : Place) → On ps q → q .identity ≡ i → ⊥
 
 pub data Goes (left : List Place) (p : Place) : (answer at : ℕ) → Type 0 where
   has : {q : Place} (o : On left q) → q .identity ≡ p .identity → Goes left p (objection q p) (o .at)
-  free : {k : ℕ} → Unheld left (p .identity) → emptyPlace (getD left k noPlace) ≡ true → Goes left p 0 k
+  free : {k : ℕ} → Unheld left (p .identity) → k < length left → emptyPlace (getD left k noPlace) ≡ true → Goes left p 0 k
   full : {k : ℕ} → Unheld left (p .identity) → allOf (λ (q : Place). not (emptyPlace q)) left ≡ true → Goes left p 23 k
 
 unheld : (left : List Place) (i : Identity) → length left ≤ indexOf (holds i) left → Unheld left i
@@ -115,7 +115,7 @@ goes left p h =
     (λ f.
     let none = unheld left (p .identity) (ltb-false (indexOf (holds (p .identity)) left) (length left) f) in
     rw f (by (ltb (indexOf emptyPlace left) (length left))
-    (λ t. rw t (free none (index-found emptyPlace left noPlace (ltb-true (indexOf emptyPlace left) (length left) t))))
+    (λ t. rw t (free none (ltb-true (indexOf emptyPlace left) (length left) t) (index-found emptyPlace left noPlace (ltb-true (indexOf emptyPlace left) (length left) t))))
     (λ g. rw g (full none (index-all emptyPlace left (ltb-false (indexOf emptyPlace left) (length left) g))))))
 
 -- An accepted post.
@@ -130,14 +130,14 @@ module _ (clock : ℕ) (ps : List Place) (p : Place) where
   elsewhere : {n k : ℕ} → Goes (dropped clock ps) p n k → n ≡ 0 → (q : Place) (o : On (dropped clock ps) q) → (q .identity ≡ p .identity → ⊥) → o .at ≡ k → ⊥
   elsewhere (has {q = x} y same) z q o d e =
       d (ap (λ (u : Place). u .identity) (sym (o .there) ∙ (ap (λ (j : ℕ). getD (dropped clock ps) j noPlace) e ∙ y .there)) ∙ same)
-  elsewhere (free none m) z q o d e = clash (emptyPlace q) (rw (← (o .there), e) m) (o .some)
+  elsewhere (free none w m) z q o d e = clash (emptyPlace q) (rw (← (o .there), e) m) (o .some)
   elsewhere (full none m) z q o d e = absurd (omega (arith, z))
 
   unopposed-by : distinct ps ≡ true → {n k : ℕ} → Goes (dropped clock ps) p n k → n ≡ 0 → (q : Place) → On (dropped clock ps) q → q .identity ≡ p .identity → objection q p ≡ 0
   unopposed-by d (has {q = x} y same) z q o e =
       let one : q ≡ x = one-place d (on-dropped clock ps q o .0) (on-dropped clock ps x y .0) (e ∙ sym same) in
       ap (λ (u : Place). objection u p) one ∙ z
-  unopposed-by d (free none m) z q o e = absurd (none q o e)
+  unopposed-by d (free none w m) z q o e = absurd (none q o e)
   unopposed-by d (full none m) z q o e = absurd (none q o e)
 
 pub step : (b : Board) (clock : ℕ) (r : Record) → goodBoard b ≡ true → 0 < claimOf clock r .place .identity .end → postOf b clock r .answer ≡ 0

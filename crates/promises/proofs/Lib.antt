@@ -1,3 +1,6 @@
 pub mod Messages
+pub mod Counting
 pub mod Held
 pub mod Tracks
+pub mod Room
+pub mod Answering

@@ -212,6 +212,10 @@ pub stands-named : {h : History} {q : Place} → Stands h q → q .marked ≡ tr
 stands-named (stands-marked m c) n = c
 stands-named {h} {q} (stands-reported m r l u) n = clash (q .marked) n m
 
+pub stands-as : {h : History} {q : Place} → Stands h q → q .marked ≡ false → Reported (q .identity) (q .correction) h
+stands-as {h} {q} (stands-marked m c) n = clash (q .marked) m n
+stands-as (stands-reported m r l u) n = r
+
 pub stands-known : {h : History} {q : Place} → Stands h q → Known (q .identity) h
 stands-known (stands-marked m c) = by-cancellation c
 stands-known {h} {q} (stands-reported m r l u) = by-report (q .correction) r
