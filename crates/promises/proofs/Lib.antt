@@ -4,3 +4,4 @@ pub mod Held
 pub mod Tracks
 pub mod Room
 pub mod Answering
+pub mod Listing
