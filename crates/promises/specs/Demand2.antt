@@ -1,0 +1,45 @@
+-- The customer's second demand: "The reader takes exactly the message forms of the paper, each with one meaning. Writing a good record and
+-- reading it gives that record; reading a canonical text and writing it gives the same bytes."
+-- Assumes nothing.
+use mathlib.Core.Bool.{true}
+use mathlib.Core.List.{List, _++_}
+use mathlib.Core.Logic.{_↔_}
+use mathlib.Core.Path.{_≡_}
+use Prim.Native.Nat.{ℕ, _≤_}
+use lib.ListN.{length, take, drop}
+use Rattle.words.specs.Check.{checkOf}
+use Rattle.words.specs.Words.{wordsIn}
+use Rattle.message.specs.Records.{good}
+use Rattle.message.specs.Words.{wordsOf, textOf}
+use Rattle.message.specs.declared.Record.{Record}
+use Rattle.grammar.specs.Judged.{messageWords}
+use Rattle.grammar.specs.Layout.{Canonical}
+use Rattle.grammar.specs.Reads.{acceptance, textIn}
+use Rattle.grammar.specs.declared.Reply.{Reply}
+use Rattle.writer.specs.declared.Written.{Written}
+use Rattle.roundtrips.specs.Trips.{MayRead, MayWrite}
+
+-- the bulletin has the words of the record and the `=`, and nothing that numbers 1 to 3 are for
+pub record Says (bulletin : List ℕ) (r : Record) : Type 0 where
+  pub readable : checkOf bulletin .number ≡ 0
+  pub sound : good r ≡ true
+  pub words : wordsIn (textIn bulletin) ≡ messageWords r
+
+pub record Demand2 : Type 0 where
+  -- "The reader takes exactly the message forms of the paper, …
+  pub takes-exactly : (bulletin : List ℕ) (p : Reply) → MayRead bulletin p → (r : Record) → (p ≡ acceptance r) ↔ Says bulletin r
+
+  -- … each with one meaning"
+  pub one-meaning : (q r : Record) → good q ≡ true → good r ≡ true → wordsOf q ≡ wordsOf r → q ≡ r
+
+  -- "Writing a good record and reading it gives that record"
+  pub written-then-read : (r : Record) (buffer after : List ℕ) (w : Written) (p : Reply) → good r ≡ true → length (textOf r) ≤ length buffer
+      → MayWrite r buffer w after → MayRead (take (w .count) after) p → (w .number ≡ 0) × (p ≡ acceptance r)
+
+  -- "reading a canonical text and writing it gives the same bytes"
+  pub read-then-written : (t buffer after : List ℕ) (p : Reply) (w : Written) → Canonical t → MayRead t p → p .number ≡ 0 → length t ≤ length buffer
+      → MayWrite (p .message) buffer w after → (w .number ≡ 0) × (w .count ≡ length t) × (after ≡ t ++ drop (length t) buffer)
+
+  -- what is written is canonical, so that every bulletin that is read has a canonical text, and one only
+  pub written-canonical : (r : Record) (buffer after : List ℕ) (w : Written) → MayWrite r buffer w after → w .number ≡ 0 → Canonical (take (w .count) after)
+  pub one-canonical : (s t : List ℕ) (p : Reply) → Canonical s → Canonical t → MayRead s p → MayRead t p → p .number ≡ 0 → s ≡ t
