@@ -26,3 +26,4 @@ pub mod Replies
 pub mod TextLaws
 pub mod Lengths
 pub mod Theorems
+pub mod Determined

@@ -1,9 +1,24 @@
-// The reply of the reader. The grammar itself is a definition, in specs/: no code runs it.
+// The reply of the reader, and a refusal. The grammar itself is a definition, in specs/: no code runs it.
+ghost use mathlib.Core.Path.{_≡_};
+ghost use Rattle.grammar.specs.Reads.{refusal as refusalOf};
 use message::Record;
+use message::empty;
 
 // The refusal number, 0 for none; the place, 0 for none; and the record, all zero where refused.
 pub struct Reply {
     pub number: u8,
     pub place: usize,
     pub message: Record,
+}
+
+// A refusal returns an empty record.
+pub fn refusal(number: u8, place: usize) -> Reply
+    ensures { λ r. ⌜ r ≡ refusalOf number place ⌝ }
+{
+    let message = empty();
+    Reply {
+        number,
+        place,
+        message,
+    }
 }

@@ -1,86 +1,10 @@
-// Bytes to a reply: the reader. Recursive descent over (text, place), a private module for each section. Each section answers a number and
-// a place: number 0 goes on at the place, any other refuses the word there.
+// The reader: bytes to a reply.
 ghost use mathlib.Core.Path.{_≡_};
-ghost use Rattle.grammar.specs.Reads.{replyOf, readOf, refusal as refusalOf};
-ghost use Rattle.grammar.specs.Runs.{runAt};
-ghost use Rattle.grammar.specs.States.State.{atDesignator};
-
-mod areas;
-mod ashes;
-mod bodies;
-mod cancelling;
-mod codes;
-mod empties;
-mod endings;
-mod first_line;
-mod fixed;
-mod kinds;
-mod levelling;
-mod limits;
-mod locating;
-mod naming;
-mod observing;
-mod opening;
-mod outlining;
-mod reports;
-mod tests;
-mod weather;
-
+ghost use Rattle.grammar.specs.Reads.{readOf};
 use grammar::Reply;
-use message::Record;
-use message::empty;
+use grammar::refusal;
+use passages::read_text;
 use words::check;
-
-// A refusal returns an empty record.
-fn refusal(number: u8, place: usize) -> Reply
-    ensures { λ r. ⌜ r ≡ refusalOf number place ⌝ }
-{
-    let message = empty();
-    Reply {
-        number,
-        place,
-        message,
-    }
-}
-
-// The text before the first `=`.
-fn read_text(text: &[u8]) -> Reply
-    ensures { λ r. ⌜ r ≡ replyOf (runAt atDesignator (now (text .entry)) 0) ⌝ }
-{
-    let h = opening::read_heading(text, 0);
-    if h.number != 0 {
-        return refusal(h.number, h.place);
-    }
-    let l = first_line::read_line(text, h.place);
-    if l.number != 0 {
-        return refusal(l.number, l.place);
-    }
-    let a = areas::read_area(text, l.place);
-    if a.number != 0 {
-        return refusal(a.number, a.place);
-    }
-    let heading = h.heading;
-    let line = l.line;
-    let area = a.area;
-    let designator = heading.designator;
-    let b = bodies::read_body(text, a.place, designator.kind, line, area.closing);
-    if b.number != 0 {
-        return refusal(b.number, b.place);
-    }
-    let form = b.form;
-    let report = b.report;
-    Reply {
-        number: 0,
-        place: 0,
-        message: Record {
-            heading,
-            line,
-            area,
-            form,
-            report,
-        },
-    }
-}
 
 // The reply to any bytes: numbers 1 to 3, then the words.
 pub fn read(bulletin: &[u8]) -> Reply

@@ -1,0 +1,13 @@
+-- `refusal` meets its contract: its record is `empty`'s. Assumes nothing.
+use borrow.Author.Needs.{needs}
+use Rattle.grammar.proofs.refusal.Statement.{statement}
+use Rattle.grammar.proofs.refusal.Tie as tie
+
+empty-requires : tie.Need-empty-requires
+empty-requires c κs = search needs
+
+returns : tie.Need-returns
+returns c = rw (c .empty .ensures)
+
+pub refusal-spec : {M : Type 1} → statement M
+refusal-spec = tie.close (tie.spec empty-requires returns)

@@ -1,0 +1,22 @@
+-- `cancellation_body` meets its contract: what is cancelled, and the `=`. Assumes nothing.
+use borrow.Author.Needs.{needs}
+use Rattle.grammar.specs.States.State.{atCancelSigmet}
+use Rattle.passages.proofs.bodies.cancellation_body.Statement.{statement}
+use Rattle.passages.proofs.bodies.cancellation_body.Tie as tie
+
+read-cancellation-requires : tie.Need-read-cancellation-requires
+read-cancellation-requires c κs = search needs
+
+concluding-requires : tie.Need-concluding-requires
+concluding-requires c κs = search needs
+
+no-report-requires : tie.Need-no-report-requires
+no-report-requires c κs = search needs
+
+returns : tie.Need-returns
+returns c =
+    record { says = λ o l. rw (c .no-report .ensures) (c .before .concluding .ensures .says (atCancelSigmet o) _ _ (c .before .before .before .before .read-cancellation .ensures .says o l)) }
+
+pub cancellation-body-spec : {M : Type 1} → statement M
+cancellation-body-spec =
+    tie.close (tie.spec read-cancellation-requires concluding-requires no-report-requires returns)

@@ -1,0 +1,58 @@
+-- `read_cancellation` meets its contract: SIGMET, a sequence and a period that cancels, one after another. Assumes nothing.
+use borrow.Author.Needs.{needs}
+use mathlib.Core.Path.{refl}
+use Rattle.grammar.specs.Records.{cancellationOf}
+use Rattle.grammar.specs.States.State.{atCancelSigmet, atCancelSequence, atCancelPeriod, atEnd}
+use Rattle.grammar.specs.Steps.{step}
+use Rattle.passages.proofs.Chains.{on, off}
+use Rattle.passages.proofs.FixedWords.{fixed-sigmet}
+use Rattle.passages.proofs.cancelling.read_cancellation.Statement.{statement}
+use Rattle.passages.proofs.cancelling.read_cancellation.Tie as tie
+
+fixed-at-requires : tie.Need-fixed-at-requires
+fixed-at-requires c κs = search needs
+
+returns : tie.Need-returns
+unfolding step
+returns c = record {
+  says = λ o l. off (c .before .before .fixed-at .ensures .says _ fixed-sigmet (atCancelSigmet o) (atCancelSequence o) refl refl) (c .if1 .taken);
+  within = search needs;
+}
+
+sequence-at-requires : tie.Need-sequence-at-requires
+sequence-at-requires c κs = search needs
+
+returns-2 : tie.Need-returns-2
+unfolding step
+returns-2 c = record {
+  says = λ o l. off
+      (on (c .before .before .before .before .before .before .fixed-at .ensures .says _ fixed-sigmet (atCancelSigmet o) (atCancelSequence o) refl refl) (c .before .before .before .before .if1 .left)
+      (c .before .before .before .sequence-at .ensures .says (atCancelSequence o) (atCancelPeriod o) refl refl))
+      (c .if2 .taken);
+  within = search needs;
+}
+
+cancelled-at-requires : tie.Need-cancelled-at-requires
+cancelled-at-requires c κs = search needs
+
+returns-3 : tie.Need-returns-3
+unfolding step
+returns-3 c =
+    let s = c .before .before .before .before .before .before .sequence-at in
+    record {
+      says = λ o l. on (c .before .before .before .before .before .before .before .before .before .fixed-at .ensures .says _ fixed-sigmet (atCancelSigmet o) (atCancelSequence o) refl refl) (c .before .before .before .before .before .before .before .if1 .left)
+          (on (s .ensures .says (atCancelSequence o) (atCancelPeriod o) refl refl) (c .before .before .before .if2 .left)
+          (c .before .before .cancelled-at .ensures .says (atCancelPeriod o (s .result .sequence)) (λ p. atEnd (cancellationOf o (s .result .sequence) (p .from))) (rw l) refl));
+      within = search needs;
+    }
+
+pub read-cancellation-spec : {M : Type 1} → statement M
+read-cancellation-spec =
+    tie.close
+    (tie.spec
+    fixed-at-requires
+    returns
+    sequence-at-requires
+    returns-2
+    cancelled-at-requires
+    returns-3)

@@ -1,0 +1,62 @@
+-- `read_after_north` meets its contract: AND moves the location on, and any other word is what follows it. Assumes nothing.
+use borrow.Author.Needs.{needs}
+use borrow.Author.Tests.{not-true, not-false}
+use mathlib.Core.Path.{refl, sym}
+use Rattle.message.specs.Locations.{noSide}
+use Rattle.grammar.specs.Placing.{placeStep}
+use Rattle.grammar.specs.Records.{bounded}
+use Rattle.grammar.specs.States.Placing.{atAnd, atSecondBound}
+use Rattle.grammar.specs.States.State.{atPlace}
+use Rattle.grammar.specs.Steps.{after}
+use Rattle.passages.proofs.Chains.{on}
+use Rattle.passages.proofs.FixedWords.{fixed-and}
+use Rattle.passages.proofs.Sides.{following-number, on-step, past-step}
+use Rattle.passages.proofs.locating.read_after_north.Statement.{statement}
+use Rattle.passages.proofs.locating.read_after_north.Tie as tie
+
+perhaps-at-requires : tie.Need-perhaps-at-requires
+perhaps-at-requires c κs = search needs
+
+no-side-requires : tie.Need-no-side-requires
+no-side-requires c κs = search needs
+
+bounded-requires : tie.Need-bounded-requires
+bounded-requires c κs = search needs
+
+returns : tie.Need-returns
+unfolding placeStep
+returns c =
+    let north = c .before .before .before .before .before .before .args .north in
+    record {
+      says = λ site n. rw (c .bounded .ensures, c .before .no-side .ensures)
+          (c .before .before .before .before .perhaps-at .ensures .without (search (not-true, needs)) _ fixed-and (atPlace site (atAnd north)) (after site (bounded north noSide))
+          (λ f. past-step site (atAnd north) _ (rw f)) (sym (following-number site (bounded north noSide))));
+      within = search needs;
+    }
+
+read-second-requires : tie.Need-read-second-requires
+read-second-requires c κs = search needs
+
+returns-2 : tie.Need-returns-2
+unfolding placeStep
+returns-2 c =
+    let north = c .before .before .before .before .before .args .north in
+    record {
+      says = λ site n. on
+          (c .before .before .before .perhaps-at .ensures .with (search (not-false, needs)) _ fixed-and (atPlace site (atAnd north)) (atPlace site (atSecondBound north))
+          (λ y. on-step site (atAnd north) _ (rw y)))
+          refl
+          (c .read-second .ensures .says site n);
+      within = search needs;
+    }
+
+pub read-after-north-spec : {M : Type 1} → statement M
+read-after-north-spec =
+    tie.close
+    (tie.spec
+    perhaps-at-requires
+    no-side-requires
+    bounded-requires
+    returns
+    read-second-requires
+    returns-2)

@@ -1,0 +1,71 @@
+-- `next_longitude` meets its contract: letter 0 is that of no longitude, and a point that closes wants four points, any other room. Assumes nothing.
+use borrow.Author.Needs.{needs}
+use mathlib.Core.Logic.{⊎-elim}
+use mathlib.Core.Path.{_≡_, _∙_}
+use Prim.Native.Nat.{_+_}
+use lib.Dec.{ltb, leb}
+use borrow.Author.Tests.{not-true, not-false}
+use Rattle.lists.specs.Choice.{pick}
+use Rattle.passages.proofs.OutlineLaws.{longitude-bad, longitude-unfit, longitude-yes}
+use Rattle.passages.proofs.outlining.next_longitude.Statement.{statement}
+use Rattle.passages.proofs.outlining.next_longitude.Tie as tie
+
+word-requires : tie.Need-word-requires
+word-requires c κs = search needs
+
+sub-longitude : tie.Need-sub-longitude
+sub-longitude c = search needs
+
+part-longitude-start : tie.Need-part-longitude-start
+part-longitude-start c = search needs
+
+part-longitude-end : tie.Need-part-longitude-end
+part-longitude-end c = search needs
+
+longitude-requires : tie.Need-longitude-requires
+longitude-requires c κs = search needs
+
+closes-requires : tie.Need-closes-requires
+closes-requires c κs = search needs
+
+add-fits : tie.Need-add-fits
+add-fits c = search needs
+
+add-fits-2 : tie.Need-add-fits-2
+add-fits-2 c = search needs
+
+-- the one test or the other
+fits-is : (c : tie.Joined1) → c .if1 .fits
+    ≡ pick (c .before .closes .result) (leb 4 (c .before .before .before .before .before .before .args .count + 1)) (ltb (c .before .before .before .before .before .before .args .count + 1) 7)
+fits-is c = ⊎-elim (λ w. w .1 ∙ rw (w .0 .taken)) (λ w. w .1 ∙ rw (w .0 .left)) (c .if1 .came)
+
+returns : tie.Need-returns
+returns c =
+    longitude-bad (search needs) (c .before .before .before .before .before .before .word .ensures) (c .before .before .before .before .longitude .ensures)
+    (c .before .before .before .closes .ensures) (fits-is (c .before .before)) (λ z. search needs) (c .if2 .taken)
+
+returns-2 : tie.Need-returns-2
+returns-2 c =
+    longitude-unfit (search needs) (c .before .before .before .before .before .before .before .word .ensures) (c .before .before .before .before .before .longitude .ensures)
+    (c .before .before .before .before .closes .ensures) (fits-is (c .before .before .before)) (λ z. search needs) (search (not-true, needs))
+
+returns-3 : tie.Need-returns-3
+returns-3 c =
+    longitude-yes (search needs) (c .before .before .before .before .before .before .before .word .ensures) (c .before .before .before .before .before .longitude .ensures)
+    (c .before .before .before .before .closes .ensures) (fits-is (c .before .before .before)) (c .before .if2 .left) (search (not-false, needs))
+
+pub next-longitude-spec : {M : Type 1} → statement M
+next-longitude-spec =
+    tie.close
+    (tie.spec
+    word-requires
+    sub-longitude
+    part-longitude-start
+    part-longitude-end
+    longitude-requires
+    closes-requires
+    add-fits
+    add-fits-2
+    returns
+    returns-2
+    returns-3)

@@ -1,0 +1,32 @@
+-- `read_test` meets its contract: without SIGMET the test is over, and with it the second text goes on. Assumes nothing.
+use borrow.Author.Needs.{needs}
+use mathlib.Core.Path.{refl}
+use borrow.Author.Tests.{not-true, not-false}
+use Rattle.grammar.specs.States.State.{atTest, atTestText}
+use Rattle.grammar.specs.Steps.{step}
+use Rattle.passages.proofs.Chains.{on}
+use Rattle.passages.proofs.FixedWords.{fixed-sigmet}
+use Rattle.passages.proofs.tests.read_test.Statement.{statement}
+use Rattle.passages.proofs.tests.read_test.Tie as tie
+
+perhaps-at-requires : tie.Need-perhaps-at-requires
+perhaps-at-requires c κs = search needs
+
+returns : tie.Need-returns
+unfolding step
+returns c = record { says = λ o. c .before .before .perhaps-at .ensures .without (search (not-true, needs)) _ fixed-sigmet (atTest o) _ (λ n. rw n) refl; within = search needs }
+
+read-please-requires : tie.Need-read-please-requires
+read-please-requires c κs = search needs
+
+returns-2 : tie.Need-returns-2
+unfolding step
+returns-2 c =
+    record {
+      says = λ o. on (c .before .before .before .perhaps-at .ensures .with (search (not-false, needs)) _ fixed-sigmet (atTest o) (atTestText o 2 2) (λ y. rw y)) refl
+          (c .read-please .ensures .second o);
+      within = search needs;
+    }
+
+pub read-test-spec : {M : Type 1} → statement M
+read-test-spec = tie.close (tie.spec perhaps-at-requires returns read-please-requires returns-2)
