@@ -5,3 +5,4 @@ pub mod Tracks
 pub mod Room
 pub mod Answering
 pub mod Listing
+pub mod Starring

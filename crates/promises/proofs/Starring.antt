@@ -1,0 +1,136 @@
+-- The starred cases, evaluated.
+-- Assumes nothing.
+use mathlib.Core.Bool.{true, false}
+use mathlib.Core.List.{List, [], _∷_, _++_}
+use mathlib.Core.Path.{_≡_, refl, ap, _∙_}
+use Prim.Native.Nat.{ℕ}
+use lib.ListN.{replicate}
+use Rattle.lists.specs.Base.{worthAfter, places}
+use Rattle.lists.specs.Lists.{indexOf, allOf, same}
+use Rattle.coordinates.specs.Coordinates.{goodCoordinate, emptyCoordinate}
+use Rattle.coordinates.specs.Points.{emptyPoint}
+use Rattle.figures.specs.Figures.{figuresOf}
+use Rattle.figures.specs.Letters.{goodLetters, lettersOf}
+use Rattle.groups.specs.Groups.{goodGroup, goodPeriod, goodTime}
+use Rattle.headings.specs.Headings.{typeWords, goodDesignator, goodCorrection}
+use Rattle.headings.specs.Sequences.{goodSequence, sequenceOf, spellSequence}
+use Rattle.levels.specs.Levels.{goodLevelWord, goodLevel, emptyLevel}
+use Rattle.names.specs.Names.{closingWords, nameWord, pieces, nameText}
+use Rattle.motions.specs.Speeds.{unitWords, goodSpeed}
+use Rattle.motions.specs.Motions.{compassWords, intensityWords}
+use Rattle.message.specs.Names.{goodName, emptyName}
+use Rattle.message.specs.Locations.{goodSide, emptySide, goodBound, noPoints, goodExtent, emptyExtent}
+use Rattle.message.specs.Records.{goodHeading, goodLine, goodArea, goodForm, good, namesItself}
+use Rattle.message.specs.Reports.{emptyVolcano, goodPhenomenon, goodObservation, emptyObservation, goodEnding, emptyEnding, goodReport, emptyReport}
+use Rattle.message.specs.Sample.{sample}
+use Rattle.message.specs.declared.Record.{Record}
+use Rattle.cases.specs.Cases.{cancelling}
+use Rattle.calendar.specs.Gregorian.{monthLength, dayFrom, dayOfMonth}
+use Rattle.calendar.specs.Instants.{matches, onDay, instantIn, startOf, endOf, targetOf}
+use Rattle.board.specs.Padded.{padded, unpadded, heldSequence}
+use Rattle.board.specs.Places.{sameIdentity, noPlace, emptyPlace, heldIdentity, heldCorrection, heldPlace, goodPlace}
+use Rattle.board.specs.Boards.{distinct, goodPlaces, goodBoard, emptyBoard, refusalAt}
+use Rattle.board.specs.Claims.{reportPlace, targetPlace, ending, cancels, timed, claimOf}
+use Rattle.board.specs.Posts.{dropped, objection, spotOf, accepted, placeAt, settled, claimedOn, postOf}
+use Rattle.listing.specs.Rows.{inForce, selected, inserted, sortedAfter, rowsOf}
+use Rattle.listing.specs.Listings.{timeRecord, messageRecord, records, listingOf, tells, listOf}
+use Rattle.board.specs.declared.Board.{Board}
+use Rattle.board.specs.declared.Identity.{Identity}
+use Rattle.board.specs.declared.Place.{Place}
+use Rattle.calendar.proofs.CalendarLaws.{case-leap-year, case-at-the-clock, case-at-the-limit}
+use Rattle.coordinates.proofs.Cases.{n00, s0000, s90, n9001}
+use Rattle.cases.proofs.Readings.{sample-read, sample-E180, sample-E181, sample-FCST, sample-NC, sample-open}
+use Rattle.promises.specs.Starred.{hex, inPairs, onTheTwentyNinth, withSample, withCancellation, page, Starred}
+
+-- what a post comes to, with every definition open: a theorem that unfolds this one computes
+opened : Record → Record
+unfolding
+    postOf claimedOn settled placeAt refusalAt goodBoard goodPlaces distinct goodPlace heldPlace heldIdentity heldCorrection heldSequence unpadded padded emptyPlace sameIdentity objection spotOf dropped claimOf timed ending cancels reportPlace targetPlace startOf endOf targetOf instantIn onDay matches dayOfMonth dayFrom monthLength spellSequence sequenceOf lettersOf goodCorrection good sample goodHeading goodLine goodArea goodForm namesItself goodReport emptyReport goodDesignator goodLetters goodGroup goodPeriod goodSequence goodName goodPhenomenon goodObservation goodExtent goodLevel goodEnding emptyVolcano emptyName emptyPoint emptyCoordinate emptySide goodBound goodSide goodCoordinate noPoints emptyExtent goodLevelWord goodSpeed unitWords intensityWords closingWords typeWords worthAfter places allOf nameText pieces nameWord indexOf same goodTime compassWords figuresOf emptyObservation emptyLevel emptyEnding
+opened r = r
+
+-- the sample's place, and the same with the mark of its cancellation
+abbrev sampleIdentity : Identity
+sampleIdentity = record { kind = 2; area = 1363296834; sequence = 3219488; start = 12648030; end = 12648270 }
+
+abbrev samplePlace : Place
+samplePlace = record { identity = sampleIdentity; correction = 0; marked = false }
+
+abbrev cancelledPlace : Place
+cancelledPlace = record { identity = sampleIdentity; correction = 0; marked = true }
+
+abbrev boardAt : Place → ℕ → Board
+boardAt p clock = record { clock = clock; places = p ∷ replicate 63 noPlace }
+
+pub sample-posted : postOf emptyBoard 12648030 sample ≡ record { answer = 0; board = boardAt samplePlace 12648030 }
+unfolding opened
+sample-posted = refl
+
+pub sample-cancelled : postOf (boardAt samplePlace 12648030) 12648180 cancelling ≡ record { answer = 0; board = boardAt cancelledPlace 12648180 }
+unfolding opened
+sample-cancelled = refl
+
+pub sample-again : postOf (boardAt cancelledPlace 12648180) 12648181 sample .answer ≡ 22
+unfolding opened
+sample-again = refl
+
+pub cancelling-again : postOf (boardAt cancelledPlace 12648180) 12648181 cancelling .answer ≡ 21
+unfolding opened
+cancelling-again = refl
+
+pub twenty-ninth : postOf emptyBoard 12182340 onTheTwentyNinth .answer ≡ 18
+unfolding opened
+twenty-ninth = refl
+
+-- the sample's record in a listing
+abbrev sampleRecord : List ℕ
+sampleRecord = hex "02" ++ (hex "51424242" ++ (hex "312020" ++ (hex "20" ++ (hex "00C0FE5E" ++ hex "00C0FF4E"))))
+
+listed-then : listOf (boardAt samplePlace 12648030) 12648030 (page 22) ≡ tells (hex "01" ++ (hex "00C0FE5E" ++ sampleRecord)) (page 22)
+unfolding opened listOf listingOf rowsOf selected inForce sortedAfter inserted records messageRecord timeRecord inPairs
+listed-then = refl
+
+listed-late : listOf (boardAt samplePlace 12648030) 12648269 (page 22) ≡ tells (hex "01" ++ (hex "00C0FF4D" ++ sampleRecord)) (page 22)
+unfolding opened listOf listingOf rowsOf selected inForce sortedAfter inserted records messageRecord timeRecord inPairs
+listed-late = refl
+
+listed-over : listOf (boardAt samplePlace 12648030) 12648270 (page 22) ≡ tells (hex "01" ++ hex "00C0FF4E") (page 22)
+unfolding opened listOf listingOf rowsOf selected inForce sortedAfter inserted records messageRecord timeRecord inPairs
+listed-over = refl
+
+listed-cancelled : listOf (boardAt cancelledPlace 12648180) 12648180 (page 22) ≡ tells (hex "01" ++ hex "00C0FEF4") (page 22)
+unfolding opened listOf listingOf rowsOf selected inForce sortedAfter inserted records messageRecord timeRecord inPairs
+listed-cancelled = refl
+
+-- the boards of the cases are these two
+with-sample : withSample ≡ boardAt samplePlace 12648030
+with-sample = ap (λ x. x .board) sample-posted
+
+with-cancellation : withCancellation ≡ boardAt cancelledPlace 12648180
+with-cancellation = ap (λ (b : Board). postOf b 12648180 cancelling .board) with-sample ∙ ap (λ x. x .board) sample-cancelled
+
+pub starred : Starred
+starred =
+    record {
+      sample-read = sample-read;
+      east-180 = sample-E180;
+      east-181 = sample-E181;
+      forecast-for-intensity = sample-FCST;
+      intensity-twice = sample-NC;
+      no-sign = sample-open;
+      north-0 = n00 .value;
+      south-0 = s0000 .value;
+      south-90 = s90 .value;
+      north-90-01 = n9001;
+      start = case-at-the-clock;
+      end = case-at-the-limit;
+      posted = ap (λ x. x .answer) sample-posted;
+      listed = ap (λ (b : Board). listOf b 12648030 (page 22)) with-sample ∙ listed-then;
+      last-minute = ap (λ (b : Board). listOf b 12648269 (page 22)) with-sample ∙ listed-late;
+      over = ap (λ (b : Board). listOf b 12648270 (page 22)) with-sample ∙ listed-over;
+      leap-year = case-leap-year;
+      common-year = twenty-ninth;
+      cancelled = ap (λ (b : Board). postOf b 12648180 cancelling .answer) with-sample ∙ ap (λ x. x .answer) sample-cancelled;
+      off-the-list = ap (λ (b : Board). listOf b 12648180 (page 22)) with-cancellation ∙ listed-cancelled;
+      late-copy = ap (λ (b : Board). postOf b 12648181 sample .answer) with-cancellation ∙ sample-again;
+      cancelled-again = ap (λ (b : Board). postOf b 12648181 cancelling .answer) with-cancellation ∙ cancelling-again;
+    }
