@@ -6,3 +6,5 @@ pub mod Room
 pub mod Answering
 pub mod Listing
 pub mod Starring
+pub mod Histories
+pub mod Contracts

@@ -1,0 +1,186 @@
+-- Demand 3 holds.
+-- Assumes nothing.
+use mathlib.Core.Bool.{true, false}
+use mathlib.Core.List.{List, [], _∷_, _++_, Pairwise, Pairwise·imp, List·Memᴰ, List·Nodup}
+use mathlib.Core.Logic.{_⊎_, inl, inr, _↔_}
+use mathlib.Core.Path.{_≡_, refl, sym, ap, subst, _∙_}
+use Prim.Native.Nat.{ℕ, _≤_, _<_}
+use native.Mathlib.Omega.{arith}
+use lib.ListN.{length, drop}
+use Rattle.lists.proofs.Choice.{clash, determined}
+use Rattle.message.specs.declared.Record.{Record}
+use Rattle.board.specs.Boards.{emptyBoard}
+use Rattle.board.specs.Claims.{claimOf}
+use Rattle.board.specs.Posts.{postOf}
+use Rattle.board.specs.declared.Board.{Board}
+use Rattle.board.specs.declared.Identity.{Identity}
+use Rattle.board.specs.declared.Place.{Place}
+use Rattle.listing.specs.Order.{Precedes, Before}
+use Rattle.listing.specs.Rows.{rowsOf}
+use Rattle.listing.specs.Listings.{Told, listOf}
+use Rattle.listing.proofs.OrderLaws.{precedes-irreflexive}
+use Rattle.promises.specs.Calls.{History, MayBegin, MayPost, MayList, Run, Happens}
+use Rattle.promises.specs.Calls.Call.{posted, listed}
+use Rattle.promises.specs.Calls.Run.{begun, then-posted, then-listed}
+use Rattle.promises.specs.Accepted.{IsReport, Reported, Known, lastClock}
+use Rattle.promises.specs.Answers.{InRange, Timely, Concerns, Full, Answered}
+use Rattle.promises.specs.Answers.Answered.{outside as by-range, early as by-clock, bad as by-record, test as by-test, no-start as by-start, no-end as by-end, no-target as by-target, ended as by-time, cancelled as by-mark, held as by-correction, again as by-target-marked, full as by-room, report-accepted, cancellation-accepted}
+use Rattle.promises.specs.Listings.{IsListing, listing, Lists}
+use Rattle.promises.specs.Listings.Lists.{outside, early, short, whole}
+use Rattle.promises.specs.Demand3.{Demand3}
+use Rattle.promises.proofs.Messages.{reportedPlace, markedPlace, cause-claim}
+use Rattle.promises.proofs.Messages.Cause.{report, cancellation}
+use Rattle.promises.proofs.Tracks.{Tracks, claims-report, tracked}
+use Rattle.promises.proofs.Room.{lasting-most}
+use Rattle.promises.proofs.Answering.{answer-cause, cause-answer}
+use Rattle.promises.proofs.Listing.{rows-listed, listed-most, one-listing, list-cause}
+
+-- What the contracts allow.
+
+pub may-begin : MayBegin emptyBoard
+may-begin = record { lent = tt; allowed = refl }
+
+pub may-post : (b : Board) (clock : ℕ) (r : Record) → MayPost b clock r (postOf b clock r .answer) (postOf b clock r .board)
+may-post b clock r = record { lent = tt; allowed = refl }
+
+pub may-list : (b : Board) (time : ℕ) (buffer : List ℕ) → MayList b time buffer (listOf b time buffer .answer) (listOf b time buffer .count) (listOf b time buffer .buffer)
+may-list b time buffer = record { lent = ([], tt); place = (0, 0); name = 0; allowed = refl }
+
+pub begins-so : {b : Board} → MayBegin b → b ≡ emptyBoard
+begins-so m = m .allowed
+
+pub posts-so : {b after : Board} {clock answer : ℕ} {r : Record} → MayPost b clock r answer after → record { answer = answer; board = after } ≡ postOf b clock r
+posts-so m = m .allowed
+
+pub lists-so : {b : Board} {time answer count : ℕ} {buffer after : List ℕ} → MayList b time buffer answer count after
+    → record { answer = answer; count = count; buffer = after } ≡ listOf b time buffer
+lists-so m = m .allowed
+
+-- The last call of a history, and the board that it was made of.
+
+record LastPost (h : History) (clock : ℕ) (r : Record) (answer : ℕ) : Type 0 where
+  board : Board
+  run : Run h board
+  says : answer ≡ postOf board clock r .answer
+
+last-post : {h : History} {b : Board} {clock answer : ℕ} {r : Record} → Run (posted clock r answer ∷ h) b → LastPost h clock r answer
+last-post (then-posted {b = b} run m) = record { board = b; run = run; says = ap (λ x. x .answer) (posts-so m) }
+
+record LastList (h : History) (time : ℕ) (buffer : List ℕ) (answer count : ℕ) (after : List ℕ) : Type 0 where
+  board : Board
+  run : Run h board
+  says : record { answer = answer; count = count; buffer = after } ≡ listOf board time buffer
+
+last-list : {h : History} {b : Board} {time answer count : ℕ} {buffer after : List ℕ} → Run (listed time buffer answer count after ∷ h) b → LastList h time buffer answer count after
+last-list (then-listed {b = b} run m) = record { board = b; run = run; says = lists-so m }
+
+-- one history, one board
+one-board : {h : History} {b c : Board} → Run h b → Run h c → b ≡ c
+one-board (begun m) (begun n) = determined (begins-so m) (begins-so n)
+one-board (then-posted {clock = clock} {message = r} x m) (then-posted y n) =
+    ap (λ p. p .board) (posts-so m) ∙ (ap (λ (u : Board). postOf u clock r .board) (one-board x y) ∙ sym (ap (λ p. p .board) (posts-so n)))
+one-board (then-listed x m) (then-listed y n) = one-board x y
+
+-- Posts.
+
+turned-away : (h : History) (clock : ℕ) (r : Record) (answer : ℕ) → Happens (posted clock r answer ∷ h) → (n : ℕ) → (answer ≡ n) ↔ Answered h clock r n
+turned-away h clock r answer hp n =
+    let l = last-post (hp .run) in
+    let t = tracked (l .run) in
+    (λ e. subst (λ (k : ℕ). Answered h clock r k) (sym (l .says) ∙ e) (answer-cause t clock r), λ a. l .says ∙ cause-answer t clock r a)
+
+only-room : {h : History} {clock n : ℕ} {r : Record} → Answered h clock r n → n ≡ 23 → Full h clock
+only-room (by-range o) e = absurd (omega (arith, e))
+only-room (by-clock x l) e = absurd (omega (arith, e))
+only-room (by-record y f) e = absurd (omega (arith, e))
+only-room (by-test y g f) e = absurd (omega (arith, e))
+only-room (by-start y c k) e = absurd (omega (arith, e))
+only-room (by-end y c s k) e = absurd (omega (arith, e))
+only-room (by-target y g f s x k) e = absurd (omega (arith, e))
+only-room (by-time y c l) e = absurd (omega (arith, e))
+only-room (by-mark y m l x) e = absurd (omega (arith, e))
+only-room (by-correction y m l u x le) e = absurd (omega (arith, e))
+only-room (by-target-marked y m l x) e = absurd (omega (arith, e))
+only-room (by-room y c l u f) e = f
+only-room (report-accepted y m l u later room) e = absurd (omega (arith, e))
+only-room (cancellation-accepted y m l u room) e = absurd (omega (arith, e))
+
+later : {h : History} {clock n : ℕ} {r : Record} → Answered h clock r n → n ≡ 0 → (i : Identity) (c : ℕ) → IsReport clock r i c → (d : ℕ) → Reported i d h → d < c
+later (by-range o) e i c m d x = absurd (omega (arith, e))
+later (by-clock y l) e i c m d x = absurd (omega (arith, e))
+later (by-record y f) e i c m d x = absurd (omega (arith, e))
+later (by-test y g f) e i c m d x = absurd (omega (arith, e))
+later (by-start y k n) e i c m d x = absurd (omega (arith, e))
+later (by-end y k s n) e i c m d x = absurd (omega (arith, e))
+later (by-target y g f s v n) e i c m d x = absurd (omega (arith, e))
+later (by-time y k l) e i c m d x = absurd (omega (arith, e))
+later (by-mark y k l v) e i c m d x = absurd (omega (arith, e))
+later (by-correction y k l u v le) e i c m d x = absurd (omega (arith, e))
+later (by-target-marked y k l v) e i c m d x = absurd (omega (arith, e))
+later (by-room y k l u f) e i c m d x = absurd (omega (arith, e))
+later {h} {clock} {n} {r} (report-accepted {i = j} {c = b} y k l u after room) e i c m d x =
+    let one = cause-claim (report k l) in
+    let same : reportedPlace j b ≡ reportedPlace i c = sym (ap (λ p. p .place) one) ∙ claims-report (ap (λ p. p .answer) one) m in
+    let lt = after d (subst (λ (p : Place). Reported (p .identity) d h) (sym same) x) in
+    omega (arith, lt, ap (λ (p : Place). p .correction) same)
+later (cancellation-accepted {i = j} y k l u room) e i c m d x =
+    let one = cause-claim (cancellation k l) in
+    let same : markedPlace j ≡ reportedPlace i c = sym (ap (λ p. p .place) one) ∙ claims-report (ap (λ p. p .answer) one) m in
+    clash true refl (ap (λ (p : Place). p .marked) same)
+
+-- Listings.
+
+lists : (h : History) (time : ℕ) (buffer : List ℕ) (answer count : ℕ) (after : List ℕ) → Happens (listed time buffer answer count after ∷ h) → Lists h time buffer answer count after
+lists h time buffer answer count after hp =
+    let l = last-list (hp .run) in
+    subst (λ (x : Told). Lists h time buffer (x .answer) (x .count) (x .buffer)) (sym (l .says)) (list-cause (tracked (l .run)) time buffer)
+
+module _ {h : History} {time : ℕ} {buffer : List ℕ} where
+  exactly : {answer count : ℕ} {after : List ℕ} → Lists h time buffer answer count after → Timely h time → (rows : List Place) → IsListing h time rows
+      → length (listing time rows) ≤ length buffer → (answer ≡ 0) × (count ≡ length (listing time rows)) × (after ≡ listing time rows ++ drop (length (listing time rows)) buffer)
+  exactly (outside (inl l)) y rows i room = absurd (omega (arith, l, y .ranged .from))
+  exactly (outside (inr l)) y rows i room = absurd (omega (arith, l, y .ranged .until))
+  exactly (early x l) y rows i room = absurd (omega (arith, l, y .no-earlier))
+  exactly (short {rows = xs} z j l) y rows i room =
+      let same : length (listing time xs) ≡ length (listing time rows) = ap (λ (v : List Place). length (listing time v)) (one-listing j i) in
+      absurd (omega (arith, l, room, same))
+  exactly (whole {rows = xs} z j l) y rows i room =
+      let same : xs ≡ rows = one-listing j i in
+      (refl, ap (λ (v : List Place). length (listing time v)) same, ap (λ (v : List Place). listing time v ++ drop (length (listing time v)) buffer) same)
+
+pub demand-3 : Demand3
+demand-3 =
+    record {
+      begins = record { board = emptyBoard; run = begun may-begin };
+      post-answered =
+          λ h hp clock r.
+          (postOf (hp .board) clock r .answer, record { board = postOf (hp .board) clock r .board; run = then-posted (hp .run) (may-post (hp .board) clock r) });
+      listing-answered =
+          λ h hp time buffer.
+          let told : Told = listOf (hp .board) time buffer in
+          (told .answer, told .count, told .buffer, record { board = hp .board; run = then-listed (hp .run) (may-list (hp .board) time buffer) });
+      one-answer = λ h clock r m n x y. sym (turned-away h clock r n y m .1 (turned-away h clock r m x m .0 refl));
+      one-telling =
+          λ h time buffer m n j k x y p q.
+          let l = last-list (p .run) in
+          let o = last-list (q .run) in
+          let same : _≡_ {A = Told} (record { answer = m; count = j; buffer = x }) (record { answer = n; count = k; buffer = y }) =
+          l .says ∙ (ap (λ (b : Board). listOf b time buffer) (one-board (l .run) (o .run)) ∙ sym (o .says)) in
+          (ap (λ (u : Told). u .answer) same, ap (λ (u : Told). u .count) same, ap (λ (u : Told). u .buffer) same);
+      lists-exactly = λ h time buffer answer count after hp. exactly (lists h time buffer answer count after hp);
+      lists = lists;
+      some-rows = λ h hp time l. (rowsOf time (hp .board .places), rows-listed (tracked (hp .run)) l);
+      one-rows = λ h time xs ys. one-listing;
+      none-twice = λ h time rows i. Pairwise·imp {S = λ (p q : Place). p .identity ≡ q .identity → ⊥} (λ p q o e. precedes-irreflexive (subst (λ (x : Identity). Precedes x (q .identity)) e o)) (i .ordered);
+      never-more =
+          λ h hp time l rows i.
+          let t = tracked (hp .run) in
+          subst (λ (xs : List Place). length xs ≤ 64) (one-listing (rows-listed t l) i) (listed-most t l);
+      ever-later = λ h clock r hp i c m. later (turned-away h clock r 0 hp 0 .0 refl) refl i c m;
+      turned-away = turned-away;
+      room-again =
+          λ h clock r answer hp y i c l u.
+          let exact = turned-away h clock r answer hp 23 in
+          (λ e. only-room (exact .0 e) refl, λ f. exact .1 (by-room y c l u f));
+      room-enough = λ h hp clock l is n k e. lasting-most (tracked (hp .run)) l is n k e;
+    }
