@@ -130,7 +130,7 @@ later (cancellation-accepted {i = j} y k l u room) e i c m d x =
 
 -- Listings.
 
-lists : (h : History) (time : ℕ) (buffer : List ℕ) (answer count : ℕ) (after : List ℕ) → Happens (listed time buffer answer count after ∷ h) → Lists h time buffer answer count after
+pub lists : (h : History) (time : ℕ) (buffer : List ℕ) (answer count : ℕ) (after : List ℕ) → Happens (listed time buffer answer count after ∷ h) → Lists h time buffer answer count after
 lists h time buffer answer count after hp =
     let l = last-list (hp .run) in
     subst (λ (x : Told). Lists h time buffer (x .answer) (x .count) (x .buffer)) (sym (l .says)) (list-cause (tracked (l .run)) time buffer)

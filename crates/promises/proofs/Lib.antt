@@ -8,3 +8,4 @@ pub mod Listing
 pub mod Starring
 pub mod Histories
 pub mod Contracts
+pub mod Fraud

@@ -49,16 +49,16 @@ unfolding
 opened r = r
 
 -- the sample's place, and the same with the mark of its cancellation
-abbrev sampleIdentity : Identity
+abbrev pub sampleIdentity : Identity
 sampleIdentity = record { kind = 2; area = 1363296834; sequence = 3219488; start = 12648030; end = 12648270 }
 
-abbrev samplePlace : Place
+abbrev pub samplePlace : Place
 samplePlace = record { identity = sampleIdentity; correction = 0; marked = false }
 
-abbrev cancelledPlace : Place
+abbrev pub cancelledPlace : Place
 cancelledPlace = record { identity = sampleIdentity; correction = 0; marked = true }
 
-abbrev boardAt : Place → ℕ → Board
+abbrev pub boardAt : Place → ℕ → Board
 boardAt p clock = record { clock = clock; places = p ∷ replicate 63 noPlace }
 
 pub sample-posted : postOf emptyBoard 12648030 sample ≡ record { answer = 0; board = boardAt samplePlace 12648030 }
