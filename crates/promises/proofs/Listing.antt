@@ -1,10 +1,11 @@
 -- The rows that are listed are those that the history has in force, and no other list is so.
 -- Assumes nothing.
-use mathlib.Core.Bool.{true, false, not}
+use mathlib.Core.Bool.{Bool, true, false, not}
 use mathlib.Core.List.{List, [], _∷_, _++_, List·Memᴰ, List·Memᴰ·head, List·Memᴰ·tail, List·Memᴰ·cases-cons, Pairwise, Pairwise·of-cons, rel-of-pairwise-cons}
 use mathlib.Core.Logic.{_⊎_, inl, inr, ⊎-elim}
 use mathlib.Core.Path.{_≡_, refl, sym, ap, subst, _∙_}
 use Prim.Native.Nat.{ℕ, zero, suc, _≤_, _<_, suc-le-suc, zero-le}
+use native.Mathlib.Nat.{not-suc-le-zero, le-of-suc-le-suc}
 use native.Mathlib.Omega.{arith}
 use lib.Dec.{leb, ltb, eqb}
 use lib.ListN.{length, getD, drop}
@@ -34,7 +35,7 @@ use Rattle.promises.proofs.Tracks.Stands.{stands-marked, stands-reporte
 use Rattle.promises.proofs.Answering.{Clocked, clocked}
 use Rattle.promises.proofs.Answering.Clocked.{outside, early, timely}
 
--- The rows of a listing are the places selected, in another order.
+-- The rows of a listing are the places selected, in another order: each of these laws goes along the definition.
 
 inserted-those : (p x : Place) (qs : List Place) → List·Memᴰ x (inserted p qs) → List·Memᴰ x (p ∷ qs)
 unfolding inserted
@@ -82,26 +83,29 @@ record Selected (time : ℕ) (ps : List Place) (x : Place) : Type 0 where
   there : getD ps at noPlace ≡ x
   forced : inForce time x ≡ true
 
+first-selected : {time : ℕ} {x : Place} (p : Place) (ps : List Place) → inForce time p ≡ true → x ≡ p → Selected time (p ∷ ps) x
+first-selected {time} p ps t e = record { at = 0; within = suc-le-suc zero-le; there = sym e; forced = ap (inForce time) e ∙ t }
+
 later-selected : {time : ℕ} {ps : List Place} {x : Place} (p : Place) → Selected time ps x → Selected time (p ∷ ps) x
 later-selected p s = record { at = suc (s .at); within = suc-le-suc (s .within); there = s .there; forced = s .forced }
 
+picked : {p x : Place} {qs : List Place} (t : Bool) → List·Memᴰ x (pick t (p ∷ qs) qs) → ((t ≡ true) × (x ≡ p)) ⊎ List·Memᴰ x qs
+picked {p} {x} {qs} true m = ⊎-elim (λ (e : x ≡ p). inl (refl, e)) (λ (n : List·Memᴰ x qs). inr n) (List·Memᴰ·cases-cons m)
+picked false m = inr m
+
 selected-those : (time : ℕ) (x : Place) (ps : List Place) → List·Memᴰ x (selected time ps) → Selected time ps x
 unfolding selected
-selected-those time x [] = λ m. elim m [ ]
-selected-those time x (p ∷ ps) =
-    by (inForce time p)
-    (λ t. rw t (λ m. ⊎-elim
-    (λ (e : x ≡ p). record { at = 0; within = suc-le-suc zero-le; there = sym e; forced = rw e t })
-    (λ (n : List·Memᴰ x (selected time ps)). later-selected p (selected-those time x ps n))
-    (List·Memᴰ·cases-cons m)))
-    (λ f. rw f (λ m. later-selected p (selected-those time x ps m)))
+selected-those time x [] m = elim m [ ]
+selected-those time x (p ∷ ps) m =
+    ⊎-elim (λ (k : (inForce time p ≡ true) × (x ≡ p)). first-selected p ps (k .0) (k .1))
+    (λ (n : List·Memᴰ x (selected time ps)). later-selected p (selected-those time x ps n)) (picked (inForce time p) m)
 
 selected-all : (time : ℕ) (ps : List Place) (k : ℕ) → k < length ps → inForce time (getD ps k noPlace) ≡ true → List·Memᴰ (getD ps k noPlace) (selected time ps)
 unfolding selected
-selected-all time [] k h t = absurd (omega (arith, h))
+selected-all time [] k h t = absurd (not-suc-le-zero h)
 selected-all time (p ∷ ps) zero h t = rw t (List·Memᴰ·head refl)
 selected-all time (p ∷ ps) (suc k) h t =
-    let rest = selected-all time ps k (omega (arith, h)) t in
+    let rest = selected-all time ps k (le-of-suc-le-suc h) t in
     by (inForce time p) (λ e. rw e (List·Memᴰ·tail rest)) (λ e. rw e rest)
 
 pub row-those : (time : ℕ) (x : Place) (ps : List Place) → List·Memᴰ x (rowsOf time ps) → (On ps x) × (inForce time x ≡ true)
