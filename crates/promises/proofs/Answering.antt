@@ -22,9 +22,9 @@ use Rattle.board.proofs.SettleLaws.{spot-within}
 use Rattle.promises.specs.Calls.{History}
 use Rattle.promises.specs.Accepted.{IsReport, IsCancellation, Reported, Cancelled, Known, lastClock}
 use Rattle.promises.specs.Accepted.Known.{by-report, by-cancellation}
-use Rattle.promises.specs.Answers.{InRange, Timely, Concerns, Full, Answered}
+use Rattle.promises.specs.Answers.{InRange, Timely, Concerns, Full, PostAnswered}
 use Rattle.promises.specs.Answers.Concerns.{reports, cancels}
-use Rattle.promises.specs.Answers.Answered.{outside as by-range, early as by-clock, bad as by-record, test as by-test, no-start as by-start, no-end as by-end, no-target as by-target, ended as by-time, cancelled as by-mark, held as by-correction, again as by-target-marked, full as by-room, report-accepted, cancellation-accepted}
+use Rattle.promises.specs.Answers.PostAnswered.{outside as by-range, early as by-clock, bad as by-record, test as by-test, no-start as by-start, no-end as by-end, no-target as by-target, ended as by-time, cancelled as by-mark, held as by-correction, again as by-target-marked, full as by-room, report-accepted, cancellation-accepted}
 use Rattle.promises.proofs.Messages.{Cause, reportedPlace, markedPlace, claim-cause, cause-claim}
 use Rattle.promises.proofs.Messages.Cause.{bad, test, no-start, no-end, no-target, ended, report, cancellation}
 use Rattle.promises.proofs.Held.{On, Goes, goes, on-dropped}
@@ -182,14 +182,14 @@ module _ (b : Board) (clock : ℕ) (r : Record) where
 -- A message that is left to the board.
 
 module _ {h : History} {clock : ℕ} {r : Record} (y : Timely h clock) where
-  report-answer : {i : Identity} {c n : ℕ} → IsReport clock r i c → clock < i .end → Settled h clock (reportedPlace i c) n → Answered h clock r n
+  report-answer : {i : Identity} {c n : ℕ} → IsReport clock r i c → clock < i .end → Settled h clock (reportedPlace i c) n → PostAnswered h clock r n
   report-answer m l (report-named f x) = by-mark y m l x
   report-answer m l (report-held f u x le) = by-correction y m l u x le
   report-answer m l (target-named f x) = clash false f refl
   report-answer {i} {c} m l (unplaced u f) = by-room y (reports c m) l u f
   report-answer m l (placed u later room) = report-accepted y m l u (later refl) room
 
-  cancellation-answer : {i : Identity} {n : ℕ} → IsCancellation clock r i → clock < i .end → Settled h clock (markedPlace i) n → Answered h clock r n
+  cancellation-answer : {i : Identity} {n : ℕ} → IsCancellation clock r i → clock < i .end → Settled h clock (markedPlace i) n → PostAnswered h clock r n
   cancellation-answer m l (report-named f x) = clash true refl f
   cancellation-answer m l (report-held f u x le) = clash true refl f
   cancellation-answer m l (target-named f x) = by-target-marked y m l x
@@ -201,7 +201,7 @@ module _ {h : History} {b : Board} (t : Tracks h b) (clock : ℕ) (r : Record) w
   unrefused y = clocked-is t clock (timely y)
 
   abbrev Answer : ℕ → Type 0
-  Answer n = Answered h clock r n
+  Answer n = PostAnswered h clock r n
 
   on-board : {p : Place} → Timely h clock → clock < p .identity .end → Settled h clock p (spotOf (dropped clock (b .places)) p .answer)
   on-board {p} y l = settle-cause t clock (y .no-earlier) p l (goes (dropped clock (b .places)) p (omega (arith, l)))
@@ -223,7 +223,7 @@ module _ {h : History} {b : Board} (t : Tracks h b) (clock : ℕ) (r : Record) w
   clocked-answer (timely y) e = post-cause y (claim-cause clock r)
 
   -- The number of a post has its cause, …
-  pub answer-cause : Answered h clock r (postOf b clock r .answer)
+  pub answer-cause : PostAnswered h clock r (postOf b clock r .answer)
   answer-cause = clocked-answer (clocked t clock) refl
 
   spot-is : {p : Place} {n : ℕ} → Timely h clock → clock < p .identity .end → Settled h clock p n → spotOf (dropped clock (b .places)) p .answer ≡ n
@@ -236,7 +236,7 @@ module _ {h : History} {b : Board} (t : Tracks h b) (clock : ℕ) (r : Record) w
   cancellation-is y m l s = spot-answer b clock r (unrefused y) (cause-claim (cancellation m l)) ∙ spot-is y l s
 
   -- … and no other: where a number's cause holds, that is the number.
-  pub cause-answer : {n : ℕ} → Answered h clock r n → postOf b clock r .answer ≡ n
+  pub cause-answer : {n : ℕ} → PostAnswered h clock r n → postOf b clock r .answer ≡ n
   cause-answer (by-range o) = let e = clocked-is t clock (outside o) in refused-answer b clock r (λ z. absurd (omega (arith, z, e))) ∙ e
   cause-answer (by-clock x l) = let e = clocked-is t clock (early x l) in refused-answer b clock r (λ z. absurd (omega (arith, z, e))) ∙ e
   cause-answer (by-record y f) = claim-answer b clock r (unrefused y) (cause-claim (bad f)) (λ z. absurd (omega (arith, z)))

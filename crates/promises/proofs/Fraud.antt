@@ -23,8 +23,8 @@ use Rattle.listing.specs.Listings.{timeRecord, records}
 use Rattle.listing.proofs.RowLaws.{time-length, records-length}
 use Rattle.promises.specs.Calls.{History, Happens}
 use Rattle.promises.specs.Calls.Call.{listed}
-use Rattle.promises.specs.Listings.{IsListing, listing, Lists}
-use Rattle.promises.specs.Listings.Lists.{outside, early, short, whole}
+use Rattle.promises.specs.InForce.{IsListing, listing, ListAnswered}
+use Rattle.promises.specs.InForce.ListAnswered.{outside, early, short, whole}
 use Rattle.promises.specs.Frauds.{Reader, BoardMaker, first, FraudsExcluded}
 use Rattle.promises.proofs.Histories.{begins-so, posts-so, lists}
 use Rattle.promises.proofs.Listing.{one-listing}
@@ -69,7 +69,7 @@ place-at ps = getD ps 0 noPlace
 listing-length : (time : ℕ) (rows : List Place) → length (listing time rows) ≡ 5 + 17 * length rows
 listing-length time rows = omega (arith, length-append (timeRecord time) (records rows), time-length time, records-length rows)
 
-counted : {h : History} {time n count : ℕ} {buffer after : List ℕ} → Lists h time buffer n count after → n ≡ 0 → (rows : List Place) → IsListing h time rows → count ≡ 5 + 17 * length rows
+counted : {h : History} {time n count : ℕ} {buffer after : List ℕ} → ListAnswered h time buffer n count after → n ≡ 0 → (rows : List Place) → IsListing h time rows → count ≡ 5 + 17 * length rows
 counted (outside o) e rows i = absurd (omega (arith, e))
 counted (early x l) e rows i = absurd (omega (arith, e))
 counted (short y j l) e rows i = absurd (omega (arith, e))

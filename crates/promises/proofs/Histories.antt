@@ -23,10 +23,10 @@ use Rattle.promises.specs.Calls.{History, MayBegin, MayPost, MayList, Ru
 use Rattle.promises.specs.Calls.Call.{posted, listed}
 use Rattle.promises.specs.Calls.Run.{begun, then-posted, then-listed}
 use Rattle.promises.specs.Accepted.{IsReport, Reported, Known, lastClock}
-use Rattle.promises.specs.Answers.{InRange, Timely, Concerns, Full, Answered}
-use Rattle.promises.specs.Answers.Answered.{outside as by-range, early as by-clock, bad as by-record, test as by-test, no-start as by-start, no-end as by-end, no-target as by-target, ended as by-time, cancelled as by-mark, held as by-correction, again as by-target-marked, full as by-room, report-accepted, cancellation-accepted}
-use Rattle.promises.specs.Listings.{IsListing, listing, Lists}
-use Rattle.promises.specs.Listings.Lists.{outside, early, short, whole}
+use Rattle.promises.specs.Answers.{InRange, Timely, Concerns, Full, PostAnswered}
+use Rattle.promises.specs.Answers.PostAnswered.{outside as by-range, early as by-clock, bad as by-record, test as by-test, no-start as by-start, no-end as by-end, no-target as by-target, ended as by-time, cancelled as by-mark, held as by-correction, again as by-target-marked, full as by-room, report-accepted, cancellation-accepted}
+use Rattle.promises.specs.InForce.{IsListing, listing, ListAnswered}
+use Rattle.promises.specs.InForce.ListAnswered.{outside, early, short, whole}
 use Rattle.promises.specs.Demand3.{Demand3}
 use Rattle.promises.proofs.Messages.{reportedPlace, markedPlace, cause-claim}
 use Rattle.promises.proofs.Messages.Cause.{report, cancellation}
@@ -83,13 +83,13 @@ one-board (then-listed x m) (then-listed y n) = one-board x y
 
 -- Posts.
 
-turned-away : (h : History) (clock : ℕ) (r : Record) (answer : ℕ) → Happens (posted clock r answer ∷ h) → (n : ℕ) → (answer ≡ n) ↔ Answered h clock r n
+turned-away : (h : History) (clock : ℕ) (r : Record) (answer : ℕ) → Happens (posted clock r answer ∷ h) → (n : ℕ) → (answer ≡ n) ↔ PostAnswered h clock r n
 turned-away h clock r answer hp n =
     let l = last-post (hp .run) in
     let t = tracked (l .run) in
-    (λ e. subst (λ (k : ℕ). Answered h clock r k) (sym (l .says) ∙ e) (answer-cause t clock r), λ a. l .says ∙ cause-answer t clock r a)
+    (λ e. subst (λ (k : ℕ). PostAnswered h clock r k) (sym (l .says) ∙ e) (answer-cause t clock r), λ a. l .says ∙ cause-answer t clock r a)
 
-only-room : {h : History} {clock n : ℕ} {r : Record} → Answered h clock r n → n ≡ 23 → Full h clock
+only-room : {h : History} {clock n : ℕ} {r : Record} → PostAnswered h clock r n → n ≡ 23 → Full h clock
 only-room (by-range o) e = absurd (omega (arith, e))
 only-room (by-clock x l) e = absurd (omega (arith, e))
 only-room (by-record y f) e = absurd (omega (arith, e))
@@ -105,7 +105,7 @@ only-room (by-room y c l u f) e = f
 only-room (report-accepted y m l u later room) e = absurd (omega (arith, e))
 only-room (cancellation-accepted y m l u room) e = absurd (omega (arith, e))
 
-later : {h : History} {clock n : ℕ} {r : Record} → Answered h clock r n → n ≡ 0 → (i : Identity) (c : ℕ) → IsReport clock r i c → (d : ℕ) → Reported i d h → d < c
+later : {h : History} {clock n : ℕ} {r : Record} → PostAnswered h clock r n → n ≡ 0 → (i : Identity) (c : ℕ) → IsReport clock r i c → (d : ℕ) → Reported i d h → d < c
 later (by-range o) e i c m d x = absurd (omega (arith, e))
 later (by-clock y l) e i c m d x = absurd (omega (arith, e))
 later (by-record y f) e i c m d x = absurd (omega (arith, e))
@@ -130,13 +130,13 @@ later (cancellation-accepted {i = j} y k l u room) e i c m d x =
 
 -- Listings.
 
-pub lists : (h : History) (time : ℕ) (buffer : List ℕ) (answer count : ℕ) (after : List ℕ) → Happens (listed time buffer answer count after ∷ h) → Lists h time buffer answer count after
+pub lists : (h : History) (time : ℕ) (buffer : List ℕ) (answer count : ℕ) (after : List ℕ) → Happens (listed time buffer answer count after ∷ h) → ListAnswered h time buffer answer count after
 lists h time buffer answer count after hp =
     let l = last-list (hp .run) in
-    subst (λ (x : Told). Lists h time buffer (x .answer) (x .count) (x .buffer)) (sym (l .says)) (list-cause (tracked (l .run)) time buffer)
+    subst (λ (x : Told). ListAnswered h time buffer (x .answer) (x .count) (x .buffer)) (sym (l .says)) (list-cause (tracked (l .run)) time buffer)
 
 module _ {h : History} {time : ℕ} {buffer : List ℕ} where
-  exactly : {answer count : ℕ} {after : List ℕ} → Lists h time buffer answer count after → Timely h time → (rows : List Place) → IsListing h time rows
+  exactly : {answer count : ℕ} {after : List ℕ} → ListAnswered h time buffer answer count after → Timely h time → (rows : List Place) → IsListing h time rows
       → length (listing time rows) ≤ length buffer → (answer ≡ 0) × (count ≡ length (listing time rows)) × (after ≡ listing time rows ++ drop (length (listing time rows)) buffer)
   exactly (outside (inl l)) y rows i room = absurd (omega (arith, l, y .ranged .from))
   exactly (outside (inr l)) y rows i room = absurd (omega (arith, l, y .ranged .until))

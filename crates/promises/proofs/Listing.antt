@@ -27,8 +27,8 @@ use Rattle.promises.specs.Calls.{History}
 use Rattle.promises.specs.Accepted.{Reported, Cancelled, Known, lastClock}
 use Rattle.promises.specs.Accepted.Known.{by-report}
 use Rattle.promises.specs.Answers.{Timely}
-use Rattle.promises.specs.Listings.{InForce, IsListing, listing, Lists}
-use Rattle.promises.specs.Listings.Lists.{outside as by-range, early as by-clock, short, whole}
+use Rattle.promises.specs.InForce.{InForce, IsListing, listing, ListAnswered}
+use Rattle.promises.specs.InForce.ListAnswered.{outside as by-range, early as by-clock, short, whole}
 use Rattle.promises.proofs.Held.{On, ends-some}
 use Rattle.promises.proofs.Tracks.{Stands, Holder, Tracks, stands-later, stands-unnamed, stands-as}
 use Rattle.promises.proofs.Tracks.Stands.{stands-marked, stands-reported}
@@ -206,7 +206,7 @@ one-listing {h} {time} {xs} {ys} a c =
 -- The answer to a listing.
 
 abbrev Ends : History → ℕ → List ℕ → Told → Type 0
-Ends h time buffer x = Lists h time buffer (x .answer) (x .count) (x .buffer)
+Ends h time buffer x = ListAnswered h time buffer (x .answer) (x .count) (x .buffer)
 
 module _ {h : History} {b : Board} (t : Tracks h b) (time : ℕ) (buffer : List ℕ) where
   list-ends : {n : ℕ} → Clocked h time n → refusalAt b time ≡ n → Ends h time buffer (listOf b time buffer)

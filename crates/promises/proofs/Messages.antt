@@ -25,7 +25,7 @@ use Rattle.board.proofs.ClaimLaws.{ended as board-ended, unended, untargeted, t
 use Rattle.board.specs.declared.Identity.{Identity}
 use Rattle.board.specs.declared.Place.{Place}
 use Rattle.promises.specs.Accepted.{IsReport, IsCancellation}
-use Rattle.promises.specs.Answers.{Carried, Concerns}
+use Rattle.promises.specs.Answers.{NoTest, Concerns}
 use Rattle.promises.specs.Answers.Concerns.{reports, cancels}
 
 abbrev pub reportedPlace : Identity → ℕ → Place
@@ -37,8 +37,8 @@ markedPlace i = record { identity = i; correction = 0; marked = true }
 pub data Cause (clock : ℕ) (r : Record) : ℕ → Place → Type 0 where
   bad : good r ≡ false → Cause clock r 13 noPlace
   test : {n : ℕ} → good r ≡ true → r .form ≡ Test n → Cause clock r 15 noPlace
-  no-start : Carried r → ((t : ℕ) → IsStart clock (r .line .valid .from) t → ⊥) → Cause clock r 18 noPlace
-  no-end : {start : ℕ} → Carried r → IsStart clock (r .line .valid .from) start
+  no-start : NoTest r → ((t : ℕ) → IsStart clock (r .line .valid .from) t → ⊥) → Cause clock r 18 noPlace
+  no-end : {start : ℕ} → NoTest r → IsStart clock (r .line .valid .from) start
       → ((t : ℕ) → IsEnd (r .heading .designator .kind) start (r .line .valid .to) t → ⊥) → Cause clock r 19 noPlace
   no-target : {named : Sequence} {from : Group} {start end : ℕ} → good r ≡ true → r .form ≡ Cancellation named from
       → IsStart clock (r .line .valid .from) start → IsEnd (r .heading .designator .kind) start (r .line .valid .to) end
@@ -59,10 +59,10 @@ test-form (Test n) t = (n, refl)
 test-form (Cancellation s from) t = clash false t refl
 test-form Reported t = clash false t refl
 
-carried : (r : Record) → good r ≡ true → isTest (r .form) ≡ false → Carried r
+carried : (r : Record) → good r ≡ true → isTest (r .form) ≡ false → NoTest r
 carried r g f = record { sound = g; no-test = λ n e. clash (isTest (r .form)) (rw e refl) f }
 
-pub carried-form : (r : Record) → Carried r → isTest (r .form) ≡ false
+pub carried-form : (r : Record) → NoTest r → isTest (r .form) ≡ false
 carried-form r c =
     by (isTest (r .form))
     (λ t. let k = test-form (r .form) t in absurd (c .no-test (k .0) (k .1)))

@@ -6,7 +6,7 @@ use mathlib.Core.Path.{_≡_, refl, ap, _∙_}
 use Prim.Native.Nat.{ℕ}
 use lib.ListN.{replicate}
 use Rattle.lists.specs.Base.{worthAfter, places}
-use Rattle.lists.specs.Lists.{indexOf, allOf, same}
+use Rattle.lists.specs.ListAnswered.{indexOf, allOf, same}
 use Rattle.coordinates.specs.Coordinates.{goodCoordinate, emptyCoordinate}
 use Rattle.coordinates.specs.Points.{emptyPoint}
 use Rattle.figures.specs.Figures.{figuresOf}

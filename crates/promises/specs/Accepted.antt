@@ -1,8 +1,9 @@
 -- What a history has accepted: "the weather reports accepted so far", their corrections and periods, and what accepted cancellations name.
+-- A correction is the code of its letter, 0 for none, so that "none, then A to X" is the order of the numbers. A sequence is kept padded;
+-- two good sequences that are padded alike are the same as written (`padded-only`).
 -- Assumes nothing.
 use mathlib.Core.Bool.{true}
 use mathlib.Core.List.{[], _∷_}
-use mathlib.Core.Logic.{_⊎_}
 use mathlib.Core.Path.{_≡_}
 use Prim.Native.Nat.{ℕ}
 use lib.Dec.{eqb}
@@ -54,7 +55,7 @@ pub data Cancelled (i : Identity) : History → Type 0 where
   cancelled-now : {clock answer : ℕ} {r : Record} {h : History} → answer ≡ 0 → IsCancellation clock r i → Cancelled i (posted clock r answer ∷ h)
   cancelled-before : {call : Call} {h : History} → Cancelled i h → Cancelled i (call ∷ h)
 
--- "accepted identities, reported or cancelled"
+-- an accepted identity, reported or cancelled
 pub data Known (i : Identity) (h : History) : Type 0 where
   by-report : (correction : ℕ) → Reported i correction h → Known i h
   by-cancellation : Cancelled i h → Known i h

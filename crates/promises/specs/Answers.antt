@@ -4,7 +4,6 @@
 -- Assumes nothing.
 use mathlib.Core.Bool.{true, false}
 use mathlib.Core.List.{List, List·Memᴰ, List·Nodup}
-use mathlib.Core.Logic.{_⊎_}
 use mathlib.Core.Path.{_≡_}
 use Prim.Native.Nat.{ℕ, _≤_, _<_}
 use lib.ListN.{length}
@@ -28,8 +27,8 @@ pub record Timely (h : History) (clock : ℕ) : Type 0 where
   pub ranged : InRange clock
   pub no-earlier : lastClock h ≤ clock
 
--- a good record, and no test
-pub record Carried (r : Record) : Type 0 where
+-- a good record, a report or a cancellation
+pub record NoTest (r : Record) : Type 0 where
   pub sound : good r ≡ true
   pub no-test : (n : ℕ) → r .form ≡ Test n → ⊥
 
@@ -38,7 +37,7 @@ pub data Concerns (clock : ℕ) (r : Record) (i : Identity) : Type 0 where
   reports : (correction : ℕ) → IsReport clock r i correction → Concerns clock r i
   cancels : IsCancellation clock r i → Concerns clock r i
 
--- "64 accepted identities, reported or cancelled, have not ended"
+-- 64 accepted identities, reported or cancelled, have not ended; `List·Memᴰ i is`: i stands in the list
 pub record Full (h : History) (clock : ℕ) : Type 0 where
   pub identities : List Identity
   pub count : length identities ≡ 64
@@ -47,39 +46,40 @@ pub record Full (h : History) (clock : ℕ) : Type 0 where
   pub lasting : (i : Identity) → List·Memᴰ i identities → clock < i .end
 
 -- the answer to a post of the record at the clock, after the history
-pub data Answered (h : History) (clock : ℕ) (r : Record) : ℕ → Type 0 where
+pub data PostAnswered (h : History) (clock : ℕ) (r : Record) : ℕ → Type 0 where
   -- "16 clock outside its range; 17 clock before the board's"
-  outside : (clock < 1440) ⊎ (52591679 < clock) → Answered h clock r 16
-  early : InRange clock → clock < lastClock h → Answered h clock r 17
+  outside : (InRange clock → ⊥) → PostAnswered h clock r 16
+  early : InRange clock → clock < lastClock h → PostAnswered h clock r 17
 
   -- "13; 15 a test; 18 no start"
-  bad : Timely h clock → good r ≡ false → Answered h clock r 13
-  test : {n : ℕ} → Timely h clock → good r ≡ true → r .form ≡ Test n → Answered h clock r 15
-  no-start : Timely h clock → Carried r → ((t : ℕ) → IsStart clock (r .line .valid .from) t → ⊥) → Answered h clock r 18
+  bad : Timely h clock → good r ≡ false → PostAnswered h clock r 13
+  test : {n : ℕ} → Timely h clock → good r ≡ true → r .form ≡ Test n → PostAnswered h clock r 15
+  no-start : Timely h clock → NoTest r → ((t : ℕ) → IsStart clock (r .line .valid .from) t → ⊥) → PostAnswered h clock r 18
 
   -- "19 no end, or no start of a target"
-  no-end : {start : ℕ} → Timely h clock → Carried r → IsStart clock (r .line .valid .from) start
-      → ((t : ℕ) → IsEnd (r .heading .designator .kind) start (r .line .valid .to) t → ⊥) → Answered h clock r 19
+  no-end : {start : ℕ} → Timely h clock → NoTest r → IsStart clock (r .line .valid .from) start
+      → ((t : ℕ) → IsEnd (r .heading .designator .kind) start (r .line .valid .to) t → ⊥) → PostAnswered h clock r 19
   no-target : {named : Sequence} {from : Group} {start end : ℕ} → Timely h clock → good r ≡ true → r .form ≡ Cancellation named from
       → IsStart clock (r .line .valid .from) start → IsEnd (r .heading .designator .kind) start (r .line .valid .to) end
-      → ((t : ℕ) → IsTarget (r .heading .designator .kind) end from t → ⊥) → Answered h clock r 19
+      → ((t : ℕ) → IsTarget (r .heading .designator .kind) end from t → ⊥) → PostAnswered h clock r 19
 
   -- "20 end at or before the clock"
-  ended : {i : Identity} → Timely h clock → Concerns clock r i → i .end ≤ clock → Answered h clock r 20
+  ended : {i : Identity} → Timely h clock → Concerns clock r i → i .end ≤ clock → PostAnswered h clock r 20
 
   -- "22 a report whose identity is marked"
-  cancelled : {i : Identity} {c : ℕ} → Timely h clock → IsReport clock r i c → clock < i .end → Cancelled i h → Answered h clock r 22
+  cancelled : {i : Identity} {c : ℕ} → Timely h clock → IsReport clock r i c → clock < i .end → Cancelled i h → PostAnswered h clock r 22
 
   -- "21 a report held with the same or a later correction, or a cancellation whose target is marked"
-  held : {i : Identity} {c d : ℕ} → Timely h clock → IsReport clock r i c → clock < i .end → (Cancelled i h → ⊥) → Reported i d h → c ≤ d → Answered h clock r 21
-  again : {i : Identity} → Timely h clock → IsCancellation clock r i → clock < i .end → Cancelled i h → Answered h clock r 21
+  held : {i : Identity} {c d : ℕ} → Timely h clock → IsReport clock r i c → clock < i .end → (Cancelled i h → ⊥)
+      → Reported i d h → c ≤ d → PostAnswered h clock r 21
+  again : {i : Identity} → Timely h clock → IsCancellation clock r i → clock < i .end → Cancelled i h → PostAnswered h clock r 21
 
   -- "23 a new place needed and all 64 in use after the dropping"
-  full : {i : Identity} → Timely h clock → Concerns clock r i → clock < i .end → (Known i h → ⊥) → Full h clock → Answered h clock r 23
+  full : {i : Identity} → Timely h clock → Concerns clock r i → clock < i .end → (Known i h → ⊥) → Full h clock → PostAnswered h clock r 23
 
   -- accepted: a report of an identity that no accepted cancellation names, with a later correction than every one accepted; a cancellation
   -- whose target no accepted one names; and room, or a place that the identity has
   report-accepted : {i : Identity} {c : ℕ} → Timely h clock → IsReport clock r i c → clock < i .end → (Cancelled i h → ⊥)
-      → ((d : ℕ) → Reported i d h → d < c) → (Full h clock → Known i h) → Answered h clock r 0
+      → ((d : ℕ) → Reported i d h → d < c) → (Full h clock → Known i h) → PostAnswered h clock r 0
   cancellation-accepted : {i : Identity} → Timely h clock → IsCancellation clock r i → clock < i .end → (Cancelled i h → ⊥)
-      → (Full h clock → Known i h) → Answered h clock r 0
+      → (Full h clock → Known i h) → PostAnswered h clock r 0

@@ -1,4 +1,6 @@
 -- The history of a board: the calls that were made, with their answers. Nothing here looks inside a board.
+-- A contract speaks of slices: where one lies, the name by which its contents are kept track of, and how long it is lent are whatever they
+-- are; `Learnt` is the function's `ensures`.
 -- Assumes nothing.
 use mathlib.Core.List.{List, [], _∷_}
 use Prim.Native.Nat.{ℕ}
@@ -6,10 +8,8 @@ use base.Fml.{GName}
 use contract.Lifetimes.{Lfts}
 use Rattle.message.specs.declared.Record.{Record}
 use Rattle.board.specs.declared.Board.{Board}
-use Rattle.board.specs.declared.Posted.{Posted}
 use Rattle.board.proofs.Board.new.Reads as new-reads
 use Rattle.board.proofs.Board.post.Reads as post-reads
-use Rattle.listing.specs.declared.Listed.{Listed}
 use Rattle.listing.proofs.list.Reads as list-reads
 use Rattle.roundtrips.specs.Trips.{slice}
 
@@ -41,7 +41,7 @@ pub record MayList (b : Board) (time : ℕ) (buffer : List ℕ) (answer count : 
   pub name : GName
   pub allowed : list-reads.Learnt lent (b, (time, (slice place name buffer, tt))) (record { answer = answer; count = count }) (b, (time, (slice place name after, tt)))
 
--- "From an empty board, over all sequences of calls": each call is made of the board that the last post gave back
+-- "From an empty board, over all sequences of calls": each call is made on the board that the last post gave back
 pub data Run : History → Board → Type 0 where
   begun : {b : Board} → MayBegin b → Run [] b
   then-posted : {h : History} {b after : Board} {clock answer : ℕ} {message : Record}

@@ -1,6 +1,8 @@
 -- The customer's first demand: "Every input of bytes, every record and every clock reading gets a definite reply. A bad bulletin is refused by
 -- the number and the place that the paper fixes. A refused call alters neither board nor buffer."
+-- Of the calls that a user makes; specs/Functions.antt has every public function.
 -- Assumes nothing.
+use mathlib.Core.Bool.{false}
 use mathlib.Core.List.{List}
 use mathlib.Core.Logic.{_↔_}
 use mathlib.Core.Path.{_≡_}
@@ -9,7 +11,8 @@ use Rattle.message.specs.declared.Record.{Record}
 use Rattle.grammar.specs.Replies.{Replied}
 use Rattle.grammar.specs.declared.Reply.{Reply}
 use Rattle.writer.specs.declared.Written.{Written}
-use Rattle.roundtrips.specs.Trips.{MayRead, MayWrite}
+use Rattle.roundtrips.specs.Trips.{MayRead, MayWrite, Outcome}
+use Rattle.board.specs.Boards.{goodBoard}
 use Rattle.board.specs.declared.Board.{Board}
 use Rattle.promises.specs.Calls.{MayBegin, MayPost, MayList}
 
@@ -29,11 +32,19 @@ pub record Demand1 : Type 0 where
   pub one-listing : (b : Board) (time : ℕ) (buffer x y : List ℕ) (m n j k : ℕ) → MayList b time buffer m j x → MayList b time buffer n k y
       → (m ≡ n) × (j ≡ k) × (x ≡ y)
 
-  -- "A bad bulletin is refused by the number and the place that the paper fixes": `Replied` says them, in the paper's words
+  -- "A bad bulletin is refused by the number and the place that the paper fixes": `Replied` says them, 4 to 12 without any machine, 1 to 3 as
+  -- `checkOf` finds them
   pub fixed : (bulletin : List ℕ) (p : Reply) → MayRead bulletin p ↔ Replied bulletin p
 
+  -- 13, 14 or the whole text; and 36 exactly for a board that is not good (16, 17 and the rest are demand 3's)
+  pub written : (r : Record) (buffer after : List ℕ) (w : Written) → MayWrite r buffer w after → Outcome r buffer (w .number) (w .count) after
+  pub bad-board-post : (b after : Board) (clock : ℕ) (r : Record) (answer : ℕ) → MayPost b clock r answer after → (answer ≡ 36) ↔ (goodBoard b ≡ false)
+  pub bad-board-list : (b : Board) (time : ℕ) (buffer after : List ℕ) (answer count : ℕ) → MayList b time buffer answer count after
+      → (answer ≡ 36) ↔ (goodBoard b ≡ false)
+
   -- "A refused call alters neither board nor buffer."
-  pub refused-writing : (r : Record) (buffer after : List ℕ) (w : Written) → MayWrite r buffer w after → (w .number ≡ 0 → ⊥) → (w .count ≡ 0) × (after ≡ buffer)
+  pub refused-writing : (r : Record) (buffer after : List ℕ) (w : Written) → MayWrite r buffer w after → (w .number ≡ 0 → ⊥)
+      → (w .count ≡ 0) × (after ≡ buffer)
   pub refused-post : (b after : Board) (clock : ℕ) (r : Record) (answer : ℕ) → MayPost b clock r answer after → (answer ≡ 0 → ⊥) → after ≡ b
   pub refused-listing : (b : Board) (time : ℕ) (buffer after : List ℕ) (answer count : ℕ) → MayList b time buffer answer count after
       → (answer ≡ 0 → ⊥) → (count ≡ 0) × (after ≡ buffer)

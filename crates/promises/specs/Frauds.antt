@@ -1,54 +1,64 @@
--- 01, "Four frauds must be provably excluded." Each is a reader or a board that keeps the contracts' words and cheats; none keeps the contracts.
+-- 01, "Four frauds must be provably excluded. A reader that refuses everything, or replies with one fixed record, breaks demand 2. A board that
+-- refuses every post, does nothing, or obeys its first post and afterwards only reports success or refuses, breaks demand 3. A made-up listing
+-- count breaks demand 3 as well". Of any reader, writer and board whatever: whoever meets the demands is no such fraud.
 -- Assumes nothing.
-use mathlib.Core.List.{List, _∷_}
-use mathlib.Core.Logic.{_⊎_}
+use mathlib.Core.List.{List, [], _∷_}
+use mathlib.Core.Logic.{_↔_}
 use mathlib.Core.Path.{_≡_}
-use Prim.Native.Nat.{ℕ, _+_, _*_}
+use Prim.Native.Nat.{ℕ}
 use lib.ListN.{length}
 use Rattle.message.specs.declared.Record.{Record}
 use Rattle.grammar.specs.declared.Reply.{Reply}
-use Rattle.roundtrips.specs.Trips.{MayRead}
-use Rattle.board.specs.declared.Board.{Board}
+use Rattle.writer.specs.declared.Written.{Written}
 use Rattle.board.specs.declared.Place.{Place}
-use Rattle.board.specs.declared.Posted.{Posted}
-use Rattle.promises.specs.Calls.{History, Happens, MayBegin, MayPost}
-use Rattle.promises.specs.Calls.Call.{listed}
-use Rattle.promises.specs.Listings.{IsListing}
+use Rattle.promises.specs.Calls.{History, Happens}
+use Rattle.promises.specs.Calls.Call.{posted, listed}
+use Rattle.promises.specs.InForce.{IsListing, listing}
+use Rattle.promises.specs.Demand2.{Demand2}
+use Rattle.promises.specs.Demand3.{Demand3}
 
--- a reader that keeps the contract of `read`
-pub record Reader : Type 0 where
-  pub read : List ℕ → Reply
-  pub kept : (bulletin : List ℕ) → MayRead bulletin (read bulletin)
+-- A reader that replies to everything and meets demand 2, with some writer
+pub record MeetsDemand2 (Reads : List ℕ → Reply → Type 0) : Type 0 where
+  pub replies : (bulletin : List ℕ) → (p : Reply) × Reads bulletin p
+  pub writer : Record → List ℕ → Written → List ℕ → Type 0
+  pub demand : Demand2 Reads writer
 
--- a board that keeps the contracts of `Board::new` and `post`
-pub record BoardMaker : Type 0 where
-  pub begin : Board
-  pub post : Board → ℕ → Record → Posted
-  pub begin-kept : MayBegin begin
-  pub post-kept : (b : Board) (clock : ℕ) (r : Record) → MayPost b clock r (post b clock r .answer) (post b clock r .board)
+-- every reply has a number
+abbrev pub RefusesEverything : (List ℕ → Reply → Type 0) → Type 0
+RefusesEverything Reads = (bulletin : List ℕ) (p : Reply) → Reads bulletin p → p .number ≡ 0 → ⊥
 
--- the board after a first post
-abbrev pub first : BoardMaker → ℕ → Record → Board
-first m clock r = m .post (m .begin) clock r .board
+-- whatever is read, the record is this one
+abbrev pub OneFixedRecord : (List ℕ → Reply → Type 0) → Record → Type 0
+OneFixedRecord Reads r = (bulletin : List ℕ) (p : Reply) → Reads bulletin p → p .number ≡ 0 → p .message ≡ r
+
+-- no post is answered 0
+abbrev pub RefusesEveryPost : (History → Type 0) → Type 0
+RefusesEveryPost Can = (h : History) (clock : ℕ) (r : Record) → Can (posted clock r 0 ∷ h) → ⊥
+
+-- no post shows in any listing: kind 1 and the time are all that is ever listed
+abbrev pub DoesNothing : (History → Type 0) → Type 0
+DoesNothing Can = (h : History) (time : ℕ) (buffer : List ℕ) (count : ℕ) (after : List ℕ) → Can (listed time buffer 0 count after ∷ h) → count ≡ 5
+
+-- after an accepted first post, a second one, whatever is answered to it, shows in no listing
+abbrev pub ObeysTheFirstOnly : (History → Type 0) → Type 0
+ObeysTheFirstOnly Can =
+    (clock then : ℕ) (r s : Record) (answer time : ℕ) (buffer : List ℕ) (j k : ℕ) (x y : List ℕ)
+    → Can (listed time buffer 0 j x ∷ (posted clock r 0 ∷ []))
+    → Can (listed time buffer 0 k y ∷ (posted then s answer ∷ (posted clock r 0 ∷ []))) → x ≡ y
 
 pub record FraudsExcluded : Type 0 where
-  -- "A reader that refuses everything, …
-  pub refuses-everything : (m : Reader) → ((bulletin : List ℕ) → m .read bulletin .number ≡ 0 → ⊥) → ⊥
+  -- "A reader that refuses everything, or replies with one fixed record, breaks demand 2."
+  pub refuses-everything : (Reads : List ℕ → Reply → Type 0) → MeetsDemand2 Reads → RefusesEverything Reads → ⊥
+  pub one-fixed-record : (Reads : List ℕ → Reply → Type 0) → MeetsDemand2 Reads → (r : Record) → OneFixedRecord Reads r → ⊥
 
-  -- … or replies with one fixed record"
-  pub one-fixed-record : (m : Reader) (r : Record) → ((bulletin : List ℕ) → m .read bulletin .number ≡ 0 → m .read bulletin .message ≡ r) → ⊥
+  -- "A board that refuses every post, does nothing, or obeys its first post and afterwards only reports success or refuses, breaks demand 3."
+  pub refuses-every-post : (Can : History → Type 0) → Demand3 Can → RefusesEveryPost Can → ⊥
+  pub does-nothing : (Can : History → Type 0) → Demand3 Can → DoesNothing Can → ⊥
+  pub obeys-the-first-only : (Can : History → Type 0) → Demand3 Can → ObeysTheFirstOnly Can → ⊥
 
-  -- "A board that refuses every post, …
-  pub refuses-every-post : (m : BoardMaker) → ((clock : ℕ) (r : Record) → m .post (m .begin) clock r .answer ≡ 0 → ⊥) → ⊥
+  -- "A made-up listing count breaks demand 3 as well, since the count is the length of the listing so defined."
+  pub made-up-count : (Can : History → Type 0) → Demand3 Can → (h : History) (time : ℕ) (buffer : List ℕ) (count : ℕ) (after : List ℕ)
+      → Can (listed time buffer 0 count after ∷ h) → (rows : List Place) → IsListing h time rows → count ≡ length (listing time rows)
 
-  -- … does nothing, …
-  pub does-nothing : (m : BoardMaker) → ((clock : ℕ) (r : Record) → first m clock r .places ≡ m .begin .places) → ⊥
-
-  -- … or obeys its first post and afterwards only reports success or refuses"
-  pub obeys-the-first-only : (m : BoardMaker)
-      → ((clock : ℕ) (r : Record) → m .post (m .begin) clock r .answer ≡ 0 → (then : ℕ) (s : Record)
-      → (m .post (first m clock r) then s .answer ≡ 0 → ⊥) ⊎ (m .post (first m clock r) then s .board .places ≡ first m clock r .places)) → ⊥
-
-  -- "A made-up listing count": after every history, the count of a listing is that of its rows
-  pub made-up-count : (h : History) (time : ℕ) (buffer : List ℕ) (count : ℕ) (after : List ℕ) → Happens (listed time buffer 0 count after ∷ h)
-      → (rows : List Place) → IsListing h time rows → (count ≡ 5 + 17 * length rows → ⊥) → ⊥
+  -- and there is no other fraud: a board that meets demand 3 gives every answer that ours gives, and no other
+  pub no-other-board : (Can : History → Type 0) → Demand3 Can → (h : History) → Can h ↔ Happens h

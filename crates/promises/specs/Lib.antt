@@ -1,7 +1,7 @@
 pub mod Calls
 pub mod Accepted
 pub mod Answers
-pub mod Listings
+pub mod InForce
 pub mod Demand1
 pub mod Demand2
 pub mod Demand3
