@@ -11,7 +11,7 @@ use borrow.Author.Tests.{eq-eqb, eqb-true, eqb-false, lt-ltb, le-leb, leb-true, 
 use Rattle.lists.specs.Choice.{both, either}
 use Rattle.lists.specs.Lists.{allOf, indexOf}
 use Rattle.lists.proofs.Choice.{by, clash, both-left, both-right, both-true, both-three, either-left, either-right, either-cases}
-use Rattle.lists.proofs.Lists.{all-map, all-weaken, index-found, index-before}
+use Rattle.lists.proofs.Lists.{all-set, all-map, all-weaken, index-found, index-before}
 use Rattle.words.proofs.Ranges.{between-low}
 use Rattle.figures.specs.Letters.{goodLetters}
 use Rattle.groups.specs.declared.Group.{Group}
@@ -36,7 +36,7 @@ use Rattle.board.specs.declared.Claim.{Claim}
 use Rattle.board.specs.declared.Identity.{Identity}
 use Rattle.board.specs.declared.Place.{Place}
 use Rattle.board.proofs.PaddedLaws.{padded-held}
-use Rattle.board.proofs.DistinctLaws.{same-identity-is, all-set, distinct-two, distinct-set}
+use Rattle.board.proofs.DistinctLaws.{same-identity-is, distinct-two, distinct-set}
 use Rattle.board.proofs.ClaimLaws.{named-good, own-good}
 
 -- "`Board::new()` is good."
@@ -207,6 +207,15 @@ in-range b clock =
     by (goodBoard b)
     (λ g. rw g (by (inRange clock) (λ t z. t) (λ f. rw f (λ z. absurd (omega (arith, z))))))
     (λ g. rw g (λ z. absurd (omega (arith, z))))
+
+-- and a good board
+pub unrefused-good : (b : Board) (time : ℕ) → refusalAt b time ≡ 0 → goodBoard b ≡ true
+unfolding refusalAt
+unrefused-good b time h =
+    by (goodBoard b) (λ (t : goodBoard b ≡ true). t) (λ (f : goodBoard b ≡ false). absurd (never (rw f at h)))
+  where
+    never : _≡_ {A = ℕ} 36 0 → ⊥
+    never e = omega arith
 
 settled-good : (b : Board) (clock : ℕ) (p : Place) → goodBoard b ≡ true → inRange clock ≡ true → heldPlace clock p ≡ true → goodBoard (settled b clock p .board) ≡ true
 unfolding settled placeAt
