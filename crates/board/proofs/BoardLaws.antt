@@ -11,10 +11,10 @@ use lib.Seq.{drop-cons}
 use borrow.Author.Tests.{lt-ltb, le-ltb, not-true, not-false}
 use Rattle.lists.specs.Choice.{both, either}
 use Rattle.lists.specs.Lists.{allOf}
-use Rattle.board.specs.Places.{noPlace, emptyPlace, goodPlace}
+use Rattle.places.specs.Places.{noPlace, emptyPlace, goodPlace}
+use Rattle.places.specs.declared.Place.{Place}
 use Rattle.board.specs.Boards.{inRange, differs, distinct, goodPlaces, goodBoard, refusalAt}
 use Rattle.board.specs.declared.Board.{Board}
-use Rattle.board.specs.declared.Place.{Place}
 
 -- Passing over the places one by one.
 

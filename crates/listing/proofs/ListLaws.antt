@@ -11,9 +11,9 @@ use lib.ListN.{length, drop}
 use borrow.Author.Tests.{ltb-false, lt-ltb, le-ltb, eqb-true, eqb-false, eq-eqb, ne-eqb}
 use Rattle.lists.specs.Base.{places}
 use Rattle.lists.proofs.Choice.{by}
+use Rattle.places.specs.declared.Place.{Place}
 use Rattle.board.specs.Boards.{refusalAt}
 use Rattle.board.specs.declared.Board.{Board}
-use Rattle.board.specs.declared.Place.{Place}
 use Rattle.board.proofs.Invariant.{board-parts, unrefused-good}
 use Rattle.listing.specs.Rows.{inForce, selected, IsRows, inserted, sortedAfter, rowsOf}
 use Rattle.listing.specs.Holding.{rowsIn, HoldsRows}
