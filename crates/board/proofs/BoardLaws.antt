@@ -1,32 +1,20 @@
 -- The tests of a board and the call's own refusals, in the shapes that the code's returns ask for.
 -- Assumes nothing.
 use mathlib.Core.Bool.{Bool, true, false, not}
-use mathlib.Core.List.{List, _++_, map, append-nil}
+use mathlib.Core.List.{List}
 use mathlib.Core.Path.{_≡_, sym, _∙_}
-use Prim.Native.Nat.{ℕ, suc, _+_, _≤_, _<_}
+use Prim.Native.Nat.{ℕ, _+_, _≤_, _<_}
 use native.Mathlib.Numerals.{add-one}
-use native.Mathlib.Nat.{le-refl}
 use lib.Dec.{eqb}
-use lib.ListN.{length, take, drop, getD, set, drop-of-length-le}
-use lib.Seq.{drop-cons, take-suc-set, drop-set-lt, append-snoc, take-all}
+use lib.ListN.{length, drop, getD, drop-of-length-le}
+use lib.Seq.{drop-cons}
 use borrow.Author.Tests.{lt-ltb, le-ltb, not-true, not-false}
 use Rattle.lists.specs.Choice.{both, either}
 use Rattle.lists.specs.Lists.{allOf}
-use Rattle.board.specs.Places.{noPlace, emptyPlace, goodPlace}
+use Rattle.places.specs.Places.{noPlace, emptyPlace, goodPlace}
+use Rattle.places.specs.declared.Place.{Place}
 use Rattle.board.specs.Boards.{inRange, differs, distinct, goodPlaces, goodBoard, refusalAt}
 use Rattle.board.specs.declared.Board.{Board}
-use Rattle.board.specs.declared.Place.{Place}
-
--- Changing every element of a list in place, one after the other.
-module _ {A : Type 0} (f : A → A) (d : A) where
-  pub swept-one : (xs : List A) (i : ℕ) {y : A} → i < length xs → y ≡ f (getD xs i d)
-      → take (i + 1) (set xs i y) ++ map f (drop (i + 1) (set xs i y)) ≡ take i xs ++ map f (drop i xs)
-  swept-one xs i {y} h e =
-      rw (add-one, e, take-suc-set xs i (f (getD xs i d)) h, drop-set-lt (suc i) xs i (f (getD xs i d)) (le-refl (suc i)), drop-cons xs i d h)
-      (append-snoc (take i xs) (f (getD xs i d)) (map f (drop (suc i) xs)))
-
-  pub swept-all : (xs : List A) (i : ℕ) → length xs ≤ i → take i xs ++ map f (drop i xs) ≡ xs
-  swept-all xs i h = rw (take-all i xs h, drop-of-length-le xs h) (append-nil xs)
 
 -- Passing over the places one by one.
 

@@ -1,61 +1,21 @@
 -- No identity is held twice: what that says of two places, and that it stays so where a place is set.
 -- Assumes nothing.
-use mathlib.Core.Bool.{Bool, true, false, not}
+use mathlib.Core.Bool.{true, false, not}
 use mathlib.Core.List.{List, [], _∷_}
-use mathlib.Core.Path.{_≡_, refl, ap}
+use mathlib.Core.Path.{_≡_, ap}
 use Prim.Native.Nat.{ℕ, zero, suc, _<_, suc-le-suc, zero-le}
 use native.Mathlib.Nat.{not-suc-le-zero, le-of-suc-le-suc}
 use native.Mathlib.Omega.{arith}
-use lib.Dec.{eqb}
 use lib.ListN.{length, getD, set}
-use borrow.Author.Tests.{eq-eqb, eqb-true, not-true}
+use borrow.Author.Tests.{not-true}
 use Rattle.lists.specs.Choice.{either}
 use Rattle.lists.specs.Lists.{allOf}
-use Rattle.lists.proofs.Choice.{by, clash, both-left, both-right, both-true, both-five, either-left, either-right, either-cases}
-use Rattle.lists.proofs.Lists.{all-at}
-use Rattle.board.specs.Places.{sameIdentity, noPlace, emptyPlace}
+use Rattle.lists.proofs.Choice.{clash, both-left, both-right, both-true, either-left, either-right, either-cases}
+use Rattle.lists.proofs.Lists.{all-at, all-by, all-set}
+use Rattle.places.specs.Places.{sameIdentity, noPlace, emptyPlace}
+use Rattle.places.specs.declared.Place.{Place}
+use Rattle.places.proofs.HeldLaws.{same-identity-swap}
 use Rattle.board.specs.Boards.{differs, distinct}
-use Rattle.board.specs.declared.Identity.{Identity}
-use Rattle.board.specs.declared.Place.{Place}
-
--- The same identity is an equal one.
-
-pub same-identity-is : (a b : Identity) → sameIdentity a b ≡ true → a ≡ b
-unfolding sameIdentity
-same-identity-is a b t =
-    let u = both-five (eqb (a .kind) (b .kind)) (eqb (a .area) (b .area)) (eqb (a .sequence) (b .sequence)) (eqb (a .start) (b .start)) (eqb (a .end) (b .end)) t in
-    let k = eqb-true (a .kind) (b .kind) (u .0) in
-    let r = eqb-true (a .area) (b .area) (u .1) in
-    let s = eqb-true (a .sequence) (b .sequence) (u .2) in
-    let f = eqb-true (a .start) (b .start) (u .3) in
-    let e = eqb-true (a .end) (b .end) (u .4) in
-    λ i. record { kind = k i; area = r i; sequence = s i; start = f i; end = e i }
-
-pub same-identity-refl : (a : Identity) → sameIdentity a a ≡ true
-unfolding sameIdentity
-same-identity-refl a =
-    both-true (eq-eqb (a .kind) (a .kind) refl)
-    (both-true (eq-eqb (a .area) (a .area) refl)
-    (both-true (eq-eqb (a .sequence) (a .sequence) refl) (both-true (eq-eqb (a .start) (a .start) refl) (eq-eqb (a .end) (a .end) refl))))
-
-pub same-identity-swap : (a b : Identity) → sameIdentity a b ≡ false → sameIdentity b a ≡ false
-same-identity-swap a b f =
-    by (sameIdentity b a)
-    (λ t. clash (sameIdentity a b) (rw (same-identity-is b a t) (same-identity-refl a)) f)
-    (λ g. g)
-
--- Where each element passes by its place, all pass.
-
-pub all-by : {A : Type 0} (f : A → Bool) (xs : List A) (d : A) → ((j : ℕ) → j < length xs → f (getD xs j d) ≡ true) → allOf f xs ≡ true
-unfolding allOf
-all-by f [] d h = refl
-all-by f (x ∷ xs) d h = both-true (h 0 (suc-le-suc zero-le)) (all-by f xs d (λ j k. h (suc j) (suc-le-suc k)))
-
-pub all-set : {A : Type 0} (f : A → Bool) (xs : List A) (k : ℕ) (y : A) → allOf f xs ≡ true → f y ≡ true → allOf f (set xs k y) ≡ true
-unfolding allOf
-all-set f [] k y t e = refl
-all-set f (x ∷ xs) zero y t e = both-true e (both-right (f x) (allOf f xs) t)
-all-set f (x ∷ xs) (suc k) y t e = both-true (both-left (f x) (allOf f xs) t) (all-set f xs k y (both-right (f x) (allOf f xs) t) e)
 
 -- Of two places the later one has another identity than a held earlier one.
 pub distinct-two : (ps : List Place) → distinct ps ≡ true → (k j : ℕ) → k < j → j < length ps → emptyPlace (getD ps k noPlace) ≡ false

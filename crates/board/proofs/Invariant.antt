@@ -1,43 +1,27 @@
 -- The invariant: the empty board is good, and every post leaves a good board good.
 -- Assumes nothing.
-use mathlib.Core.Bool.{true, false, not}
+use mathlib.Core.Bool.{true, false}
 use mathlib.Core.List.{List, [], _∷_, map}
 use mathlib.Core.Path.{_≡_, refl, ap, _∙_}
-use Prim.Native.Nat.{ℕ, suc, _+_, _≤_, _<_}
+use Prim.Native.Nat.{ℕ, suc, _≤_, _<_}
 use native.Mathlib.Omega.{arith}
 use lib.Dec.{leb, ltb, eqb}
 use lib.ListN.{length, getD, set, length-set}
-use borrow.Author.Tests.{eq-eqb, eqb-true, eqb-false, lt-ltb, le-leb, leb-true, leb-false, ltb-true, ltb-false}
+use borrow.Author.Tests.{eq-eqb, eqb-true, leb-false, ltb-true, ltb-false}
 use Rattle.lists.specs.Choice.{both, either}
 use Rattle.lists.specs.Lists.{allOf, indexOf}
 use Rattle.lists.proofs.Choice.{by, clash, both-left, both-right, both-true, both-three, either-left, either-right, either-cases}
-use Rattle.lists.proofs.Lists.{all-map, all-weaken, index-found, index-before}
-use Rattle.words.proofs.Ranges.{between-low}
-use Rattle.figures.specs.Letters.{goodLetters}
-use Rattle.groups.specs.declared.Group.{Group}
-use Rattle.headings.specs.Headings.{typeWords, goodType, goodDesignator}
-use Rattle.headings.specs.Sequences.{goodSequence}
-use Rattle.headings.specs.declared.Sequence.{Sequence}
-use Rattle.message.specs.Records.{good}
-use Rattle.message.specs.declared.Form.{Form}
-use Rattle.message.specs.declared.Form.the-variants.{NoForm, Test, Cancellation, Reported}
+use Rattle.lists.proofs.Lists.{all-set, all-map, all-weaken, index-found, index-before}
 use Rattle.message.specs.declared.Record.{Record}
-use Rattle.message.proofs.Goodness.{good-parts, heading-parts, area-parts}
-use Rattle.calendar.specs.Gregorian.{never}
-use Rattle.calendar.specs.Instants.{limitOf, endOf, targetOf}
-use Rattle.calendar.proofs.CalendarLaws.{end-bound, end-within, target-bound, target-within}
-use Rattle.board.specs.Padded.{heldSequence, paddedOf}
-use Rattle.board.specs.Places.{sameIdentity, noIdentity, noPlace, emptyPlace, heldIdentity, heldCorrection, heldPlace, goodPlace}
+use Rattle.places.specs.Places.{sameIdentity, noIdentity, noPlace, emptyPlace, heldIdentity, heldCorrection, heldPlace, goodPlace}
+use Rattle.places.specs.Claims.{claimOf}
+use Rattle.places.specs.declared.Place.{Place}
+use Rattle.places.proofs.HeldLaws.{same-identity-is, identity-parts, identity-held, held-some, no-place-empty, empty-good, empty-identity, held-good-place}
+use Rattle.places.proofs.ClaimedLaws.{claim-held}
 use Rattle.board.specs.Boards.{placeCount, inRange, differs, distinct, goodPlaces, goodBoard, emptyBoard, refusalAt}
-use Rattle.board.specs.Claims.{identityOf, reportPlace, targetPlace, ending, cancels, timed, isTest, startAt, endAt, claimOf}
 use Rattle.board.specs.Posts.{kept, dropped, holds, spotOf, placeAt, settled, claimedOn, postOf}
 use Rattle.board.specs.declared.Board.{Board}
-use Rattle.board.specs.declared.Claim.{Claim}
-use Rattle.board.specs.declared.Identity.{Identity}
-use Rattle.board.specs.declared.Place.{Place}
-use Rattle.board.proofs.PaddedLaws.{padded-held}
-use Rattle.board.proofs.DistinctLaws.{same-identity-is, all-set, distinct-two, distinct-set}
-use Rattle.board.proofs.ClaimLaws.{named-good, own-good}
+use Rattle.board.proofs.DistinctLaws.{distinct-two, distinct-set}
 
 -- "`Board::new()` is good."
 pub new-good : goodBoard emptyBoard ≡ true
@@ -67,54 +51,7 @@ unfolding goodBoard goodPlaces
 whole-board clock ps r l a d =
     both-true (either-right (eqb clock 0) r) (both-true (both-true (eq-eqb (length ps) placeCount l) a) d)
 
--- The parts of a held identity.
-
-pub record HeldIdentity (clock : ℕ) (i : Identity) : Type 0 where
-  pub formed : both (goodType (i .kind)) (both (goodLetters 4 (i .area)) (heldSequence (i .sequence))) ≡ true
-  pub starts : i .start < i .end
-  pub short : i .end ≤ i .start + limitOf (i .kind)
-  pub lasts : clock < i .end
-  pub timely : i .end < never
-
-pub identity-parts : (clock : ℕ) (i : Identity) → heldIdentity clock i ≡ true → HeldIdentity clock i
-unfolding heldIdentity
-identity-parts clock i t =
-    let u = both-three (both (goodType (i .kind)) (both (goodLetters 4 (i .area)) (heldSequence (i .sequence)))) (both (ltb (i .start) (i .end)) (leb (i .end) (i .start + limitOf (i .kind)))) (both (ltb clock (i .end)) (ltb (i .end) never)) t in
-    record {
-      formed = u .0;
-      starts = ltb-true (i .start) (i .end) (both-left (ltb (i .start) (i .end)) (leb (i .end) (i .start + limitOf (i .kind))) (u .1));
-      short = leb-true (i .end) (i .start + limitOf (i .kind)) (both-right (ltb (i .start) (i .end)) (leb (i .end) (i .start + limitOf (i .kind))) (u .1));
-      lasts = ltb-true clock (i .end) (both-left (ltb clock (i .end)) (ltb (i .end) never) (u .2));
-      timely = ltb-true (i .end) never (both-right (ltb clock (i .end)) (ltb (i .end) never) (u .2));
-    }
-
-pub identity-held : (clock : ℕ) (i : Identity) → HeldIdentity clock i → heldIdentity clock i ≡ true
-unfolding heldIdentity
-identity-held clock i h =
-    both-true (h .formed)
-    (both-true (both-true (lt-ltb (i .start) (i .end) (h .starts)) (le-leb (i .end) (i .start + limitOf (i .kind)) (h .short)))
-    (both-true (lt-ltb clock (i .end) (h .lasts)) (lt-ltb (i .end) never (h .timely))))
-
--- a held identity is not the empty one
-held-some : (clock : ℕ) (p : Place) → heldPlace clock p ≡ true → sameIdentity (p .identity) noIdentity ≡ false
-unfolding heldPlace typeWords
-held-some clock p t =
-    by (sameIdentity (p .identity) noIdentity)
-    (λ s.
-    let h = identity-parts clock (p .identity) (both-left (heldIdentity clock (p .identity)) (heldCorrection (p .marked) (p .correction)) t) in
-    let k : p .identity .kind ≡ 0 = ap (λ (i : Identity). i .kind) (same-identity-is (p .identity) noIdentity s) in
-    absurd (omega (arith, k, between-low 2 3 (p .identity .kind) (both-left (goodType (p .identity .kind)) (both (goodLetters 4 (p .identity .area)) (heldSequence (p .identity .sequence))) (h .formed)))))
-    (λ f. f)
-
 -- Dropping.
-
-pub no-place-empty : emptyPlace noPlace ≡ true
-unfolding emptyPlace sameIdentity
-no-place-empty = refl
-
-empty-good : (clock : ℕ) → goodPlace clock noPlace ≡ true
-unfolding goodPlace
-empty-good clock = either-left (heldPlace clock noPlace) no-place-empty
 
 kept-good : (before clock : ℕ) (p : Place) → goodPlace before p ≡ true → goodPlace clock (kept clock p) ≡ true
 unfolding goodPlace heldPlace
@@ -170,10 +107,6 @@ dropped-distinct before clock (p ∷ ps) t d =
 
 -- Setting the place where it goes.
 
-empty-identity : (p : Place) → emptyPlace p ≡ true → sameIdentity (p .identity) noIdentity ≡ true
-unfolding emptyPlace
-empty-identity p t = both-left (sameIdentity (p .identity) noIdentity) (both (eqb (p .correction) 0) (not (p .marked))) t
-
 -- no other place has the identity of the one that holds it first
 others : (ps : List Place) (p : Place) → sameIdentity (p .identity) noIdentity ≡ false → distinct ps ≡ true
     → (j : ℕ) → j < length ps → (j ≡ indexOf (holds (p .identity)) ps → ⊥) → sameIdentity (p .identity) (getD ps j noPlace .identity) ≡ false
@@ -196,10 +129,6 @@ spot-distinct ps p s d =
     (λ t. rw t (distinct-set ps (indexOf (holds (p .identity)) ps) p d (others ps p s d)))
     (λ f. rw f (distinct-set ps (indexOf emptyPlace ps) p d (λ j l n. others ps p s d j l (λ e. absurd (omega (arith, e, l, ltb-false (indexOf (holds (p .identity)) ps) (length ps) f))))))
 
-held-good-place : (clock : ℕ) (p : Place) → heldPlace clock p ≡ true → goodPlace clock p ≡ true
-unfolding goodPlace
-held-good-place clock p h = either-right (emptyPlace p) h
-
 -- a call that is not refused has a clock in range
 pub in-range : (b : Board) (clock : ℕ) → refusalAt b clock ≡ 0 → inRange clock ≡ true
 unfolding refusalAt
@@ -207,6 +136,15 @@ in-range b clock =
     by (goodBoard b)
     (λ g. rw g (by (inRange clock) (λ t z. t) (λ f. rw f (λ z. absurd (omega (arith, z))))))
     (λ g. rw g (λ z. absurd (omega (arith, z))))
+
+-- and a good board
+pub unrefused-good : (b : Board) (time : ℕ) → refusalAt b time ≡ 0 → goodBoard b ≡ true
+unfolding refusalAt
+unrefused-good b time h =
+    by (goodBoard b) (λ (t : goodBoard b ≡ true). t) (λ (f : goodBoard b ≡ false). absurd (never (rw f at h)))
+  where
+    never : _≡_ {A = ℕ} 36 0 → ⊥
+    never e = omega arith
 
 settled-good : (b : Board) (clock : ℕ) (p : Place) → goodBoard b ≡ true → inRange clock ≡ true → heldPlace clock p ≡ true → goodBoard (settled b clock p .board) ≡ true
 unfolding settled placeAt
@@ -221,73 +159,6 @@ settled-good b clock p g r h =
     (all-set (goodPlace clock) left (spotOf left p .at) p (dropped-good (b .clock) clock (b .places) (parts .places)) (held-good-place clock p h))
     (spot-distinct left p some (dropped-distinct (b .clock) clock (b .places) (parts .places) (parts .distincts)))))
     (λ f. rw f g)
-
--- What a message claims is held.
-
-record-formed : (r : Record) (s : Sequence) → good r ≡ true → goodSequence s ≡ true
-    → both (goodType (r .heading .designator .kind)) (both (goodLetters 4 (r .area .indicator)) (heldSequence (paddedOf s))) ≡ true
-unfolding goodDesignator
-record-formed r s g h =
-    both-true (both-left (goodType (r .heading .designator .kind)) _ (heading-parts (r .heading) (good-parts r g .heading) .designator))
-    (both-true (area-parts (r .area) (good-parts r g .area) .indicator) (padded-held s h))
-
-report-held : (clock : ℕ) (r : Record) (start : ℕ) → good r ≡ true → (endOf (r .heading .designator .kind) start (r .line .valid .to) ≡ never → ⊥)
-    → clock < endOf (r .heading .designator .kind) start (r .line .valid .to) → heldPlace clock (reportPlace r start (endOf (r .heading .designator .kind) start (r .line .valid .to))) ≡ true
-unfolding heldPlace reportPlace heldCorrection
-report-held clock r start g n l =
-    let end : ℕ = endOf (r .heading .designator .kind) start (r .line .valid .to) in
-    let early : end < never = omega (arith, n, end-bound (r .heading .designator .kind) start (r .line .valid .to)) in
-    let w = end-within (r .heading .designator .kind) start (r .line .valid .to) early in
-    both-true
-    (identity-held clock (identityOf r (r .line .sequence) start end) (record { formed = record-formed r (r .line .sequence) g (own-good r g); starts = w .0; short = w .1; lasts = l; timely = early }))
-    (heading-parts (r .heading) (good-parts r g .heading) .correction)
-
-target-held : (clock : ℕ) (r : Record) (s : Sequence) (from : Group) (end : ℕ) → good r ≡ true → goodSequence s ≡ true → end < never
-    → (targetOf (r .heading .designator .kind) end from ≡ never → ⊥) → clock < end → heldPlace clock (targetPlace r s (targetOf (r .heading .designator .kind) end from) end) ≡ true
-unfolding heldPlace targetPlace heldCorrection
-target-held clock r s from end g h e n l =
-    let start : ℕ = targetOf (r .heading .designator .kind) end from in
-    let w = target-within (r .heading .designator .kind) end from (omega (arith, n, target-bound (r .heading .designator .kind) end from)) in
-    both-true
-    (identity-held clock (identityOf r s start end) (record { formed = record-formed r s g h; starts = w .0; short = w .1; lasts = l; timely = e }))
-    refl
-
--- a claim that is not refused
-abbrev Holds : ℕ → Claim → Type 0
-Holds clock c = c .answer ≡ 0 → heldPlace clock (c .place) ≡ true
-
-ending-holds : (clock end : ℕ) (p : Place) → (clock < end → heldPlace clock p ≡ true) → Holds clock (ending clock end p)
-unfolding ending
-ending-holds clock end p h =
-    by (leb end clock)
-    (λ t. rw t (λ z. absurd (omega (arith, z))))
-    (λ f. rw f (λ z. h (leb-false end clock f)))
-
-form-holds : (clock : ℕ) (r : Record) → good r ≡ true → (endAt clock r ≡ never → ⊥) → (f : Form) → r .form ≡ f → Holds clock (timed clock r (startAt clock r) (endAt clock r) f)
-unfolding timed cancels
-form-holds clock r g n NoForm e = λ z. absurd (omega (arith, z))
-form-holds clock r g n (Test k) e = λ z. absurd (omega (arith, z))
-form-holds clock r g n (Cancellation s from) e =
-    by (eqb (targetOf (r .heading .designator .kind) (endAt clock r) from) never)
-    (λ t. rw t (λ z. absurd (omega (arith, z))))
-    (λ f. rw f (ending-holds clock (endAt clock r) (targetPlace r s (targetOf (r .heading .designator .kind) (endAt clock r) from) (endAt clock r)) (λ l.
-    target-held clock r s from (endAt clock r) g (named-good r g e) (omega (arith, n, end-bound (r .heading .designator .kind) (startAt clock r) (r .line .valid .to)))
-    (eqb-false (targetOf (r .heading .designator .kind) (endAt clock r) from) never f) l)))
-form-holds clock r g n Reported e =
-    ending-holds clock (endAt clock r) (reportPlace r (startAt clock r) (endAt clock r)) (report-held clock r (startAt clock r) g n)
-
-pub claim-held : (clock : ℕ) (r : Record) → claimOf clock r .answer ≡ 0 → heldPlace clock (claimOf clock r .place) ≡ true
-unfolding claimOf
-claim-held clock r =
-    by (good r)
-    (λ g. rw g (by (isTest (r .form))
-    (λ t. rw t (λ z. absurd (omega (arith, z))))
-    (λ t. rw t (by (eqb (startAt clock r) never)
-    (λ u. rw u (λ z. absurd (omega (arith, z))))
-    (λ u. rw u (by (eqb (endAt clock r) never)
-    (λ v. rw v (λ z. absurd (omega (arith, z))))
-    (λ v. rw v (form-holds clock r g (eqb-false (endAt clock r) never v) (r .form) refl))))))))
-    (λ g. rw g (λ z. absurd (omega (arith, z))))
 
 -- "from a good board every call leaves a good board": a post does; a listing hands the board back to nobody and changes none.
 pub post-good : (b : Board) (clock : ℕ) (r : Record) → goodBoard b ≡ true → goodBoard (postOf b clock r .board) ≡ true

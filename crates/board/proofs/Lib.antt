@@ -1,7 +1,4 @@
-pub mod PaddedLaws
-pub mod PlaceLaws
 pub mod BoardLaws
-pub mod ClaimLaws
 pub mod SettleLaws
 pub mod DistinctLaws
 pub mod Invariant

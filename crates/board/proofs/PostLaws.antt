@@ -6,7 +6,7 @@ use mathlib.Core.Path.{_≡_, refl, sym, ap, _∙_}
 use Prim.Native.Nat.{ℕ, zero, suc, _<_}
 use native.Mathlib.Nat.{not-suc-le-zero, le-of-suc-le-suc}
 use native.Mathlib.Omega.{arith}
-use lib.Dec.{leb, ltb, eqb}
+use lib.Dec.{ltb, eqb}
 use lib.ListN.{length, getD, set}
 use lib.Seq.{getD-set-same, getD-set-other}
 use borrow.Author.Tests.{eqb-true, eqb-false, lt-leb, ltb-true, not-true}
@@ -16,18 +16,15 @@ use Rattle.lists.proofs.Choice.{by, clash, both-right}
 use Rattle.lists.proofs.Lists.{index-found}
 use Rattle.groups.specs.declared.Group.{Group}
 use Rattle.headings.specs.declared.Sequence.{Sequence}
-use Rattle.message.specs.Records.{good}
-use Rattle.message.specs.declared.Form.{Form}
 use Rattle.message.specs.declared.Form.the-variants.{Cancellation}
 use Rattle.message.specs.declared.Record.{Record}
-use Rattle.calendar.specs.Gregorian.{never}
-use Rattle.calendar.specs.Instants.{targetOf}
-use Rattle.board.specs.Places.{sameIdentity, noIdentity, noPlace, emptyPlace}
+use Rattle.places.specs.Places.{sameIdentity, noIdentity, noPlace, emptyPlace}
+use Rattle.places.specs.Claims.{isTest, claimOf}
+use Rattle.places.specs.declared.Place.{Place}
+use Rattle.places.proofs.ClaimedLaws.{cancelled-claim, test-unclaimed}
 use Rattle.board.specs.Boards.{refusalAt}
-use Rattle.board.specs.Claims.{targetPlace, ending, cancels, timed, isTest, startAt, endAt, claimOf}
 use Rattle.board.specs.Posts.{kept, dropped, holds, objection, spotOf, placeAt, settled, claimedOn, postOf}
 use Rattle.board.specs.declared.Board.{Board}
-use Rattle.board.specs.declared.Place.{Place}
 use Rattle.board.proofs.SettleLaws.{spot-within}
 
 -- "Board unchanged, its clock too."
@@ -109,41 +106,13 @@ given b clock r z =
     let a = accepted-parts b clock r z in
     rw (a .board) (getD-set-same (dropped clock (b .places)) (spotOf (dropped clock (b .places)) (claimOf clock r .place) .at) (claimOf clock r .place) noPlace (spot-within (dropped clock (b .places)) (claimOf clock r .place) (a .free)))
 
--- "A cancellation marks its target's place, or takes a marked place where none is held": an accepted one claims a marked place.
-cancelled-timed : (clock : ℕ) (r : Record) (start end : ℕ) (s : Sequence) (from : Group) (f : Form) → f ≡ Cancellation s from
-    → timed clock r start end f .answer ≡ 0 → timed clock r start end f .place .marked ≡ true
-unfolding timed cancels ending targetPlace
-cancelled-timed clock r start end s from f e =
-    rw e (by (eqb (targetOf (r .heading .designator .kind) end from) never)
-    (λ v. rw v (λ z. absurd (omega (arith, z))))
-    (λ v. rw v (by (leb end clock) (λ w. rw w (λ z. absurd (omega (arith, z)))) (λ w. rw w (λ z. refl)))))
-
-cancelled-claim : (clock : ℕ) (r : Record) (s : Sequence) (from : Group) → r .form ≡ Cancellation s from → claimOf clock r .answer ≡ 0 → claimOf clock r .place .marked ≡ true
-unfolding claimOf
-cancelled-claim clock r s from e =
-    by (good r)
-    (λ g. rw g (by (isTest (r .form))
-    (λ t. rw t (λ z. absurd (omega (arith, z))))
-    (λ t. rw t (by (eqb (startAt clock r) never)
-    (λ u. rw u (λ z. absurd (omega (arith, z))))
-    (λ u. rw u (by (eqb (endAt clock r) never)
-    (λ v. rw v (λ z. absurd (omega (arith, z))))
-    (λ v. rw v (cancelled-timed clock r (startAt clock r) (endAt clock r) s from (r .form) e))))))))
-    (λ g. rw g (λ z. absurd (omega (arith, z))))
-
+-- "A cancellation marks its target's place, or takes a marked place where none is held"
 pub cancelled-marked : (b : Board) (clock : ℕ) (r : Record) (s : Sequence) (from : Group) → r .form ≡ Cancellation s from → postOf b clock r .answer ≡ 0
     → getD (postOf b clock r .board .places) (spotOf (dropped clock (b .places)) (claimOf clock r .place) .at) noPlace .marked ≡ true
 cancelled-marked b clock r s from e z =
     ap (λ (p : Place). p .marked) (given b clock r z) ∙ cancelled-claim clock r s from e (accepted-parts b clock r z .claimed)
 
 -- "15 a test": no test reaches the board.
-test-unclaimed : (clock : ℕ) (r : Record) → isTest (r .form) ≡ true → claimOf clock r .answer ≡ 0 → ⊥
-unfolding claimOf
-test-unclaimed clock r t =
-    by (good r)
-    (λ g. rw (g, t) (λ z. absurd (omega (arith, z))))
-    (λ g. rw g (λ z. absurd (omega (arith, z))))
-
 pub test-stays : (b : Board) (clock : ℕ) (r : Record) → isTest (r .form) ≡ true → postOf b clock r .board ≡ b
 test-stays b clock r t =
     refused-unchanged b clock r (λ z. test-unclaimed clock r t (accepted-parts b clock r z .claimed))

@@ -12,13 +12,13 @@ use Rattle.lists.specs.Choice.{both}
 use Rattle.lists.specs.Lists.{indexOf}
 use Rattle.lists.proofs.Choice.{by}
 use Rattle.message.specs.declared.Record.{Record}
-use Rattle.board.specs.Places.{noPlace, emptyPlace}
+use Rattle.places.specs.Places.{noPlace, emptyPlace}
+use Rattle.places.specs.Claims.{claimOf}
+use Rattle.places.specs.declared.Claim.{Claim}
+use Rattle.places.specs.declared.Place.{Place}
 use Rattle.board.specs.Boards.{refusalAt}
-use Rattle.board.specs.Claims.{claimOf}
 use Rattle.board.specs.Posts.{kept, dropped, holds, objection, spotOf, Finds, placeAt, settled, claimedOn, postOf}
 use Rattle.board.specs.declared.Board.{Board}
-use Rattle.board.specs.declared.Claim.{Claim}
-use Rattle.board.specs.declared.Place.{Place}
 use Rattle.board.specs.declared.Posted.{Posted}
 use Rattle.board.specs.declared.Spot.{Spot}
 

@@ -8,9 +8,9 @@ use lib.ListN.{length, replicate}
 use Rattle.lists.specs.Choice.{pick, both, either}
 use Rattle.lists.specs.Lists.{allOf}
 use Rattle.words.specs.Bytes.{between}
-use Rattle.board.specs.Places.{sameIdentity, noPlace, emptyPlace, goodPlace}
+use Rattle.places.specs.Places.{sameIdentity, noPlace, emptyPlace, goodPlace}
+use Rattle.places.specs.declared.Place.{Place}
 use Rattle.board.specs.declared.Board.{Board}
-use Rattle.board.specs.declared.Place.{Place}
 
 -- "A board has 64 places"
 abbrev pub placeCount : ℕ

@@ -11,13 +11,13 @@ use lib.ListN.{length, getD, set}
 use Rattle.lists.specs.Choice.{pick, both}
 use Rattle.lists.specs.Lists.{indexOf}
 use Rattle.message.specs.declared.Record.{Record}
-use Rattle.board.specs.Places.{sameIdentity, noPlace, emptyPlace}
+use Rattle.places.specs.Places.{sameIdentity, noPlace, emptyPlace}
+use Rattle.places.specs.Claims.{claimOf}
+use Rattle.places.specs.declared.Claim.{Claim}
+use Rattle.places.specs.declared.Identity.{Identity}
+use Rattle.places.specs.declared.Place.{Place}
 use Rattle.board.specs.Boards.{placeCount, refusalAt}
-use Rattle.board.specs.Claims.{claimOf}
 use Rattle.board.specs.declared.Board.{Board}
-use Rattle.board.specs.declared.Claim.{Claim}
-use Rattle.board.specs.declared.Identity.{Identity}
-use Rattle.board.specs.declared.Place.{Place}
 use Rattle.board.specs.declared.Posted.{Posted}
 use Rattle.board.specs.declared.Spot.{Spot}
 

@@ -5,12 +5,12 @@ ghost use lib.ListN.{drop};
 ghost use Rattle.lists.specs.Lists.{allOf};
 ghost use Rattle.board.specs.Boards.{inRange, differs, distinct, goodPlaces};
 use crate::Board;
-use crate::Place;
-use crate::places::empty_place;
-use crate::places::good_place;
-use crate::places::same_identity;
 use lists::both;
 use lists::either;
+use places::Place;
+use places::empty_place;
+use places::good_place;
+use places::same_identity;
 
 pub(crate) fn in_range(clock: u32) -> bool
     ensures { λ r. ⌜ r ≡ inRange clock ⌝ }

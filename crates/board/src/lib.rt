@@ -3,39 +3,20 @@ ghost use mathlib.Core.Path.{_≡_};
 ghost use Rattle.board.specs.Boards.{goodBoard, emptyBoard, refusalAt};
 ghost use Rattle.board.specs.Posts.{settled, postOf};
 
-mod claims;
 mod goodness;
-mod padding;
-mod places;
 mod settling;
 
-use claims::claim_of;
 use goodness::are_distinct;
 use goodness::good_places;
 use goodness::in_range;
 use lists::both;
 use lists::either;
 use message::Record;
+use places::Place;
+use places::claim_of;
 use places::no_place;
 use settling::drop_ended;
 use settling::spot_of;
-
-// The type as its kind in the listing, 2 WS or 3 WV; the area's letters and the sequence's characters, filled up to three with spaces, in
-// base 256; start and end in minutes from 2000-01-01 0000Z.
-pub struct Identity {
-    pub kind: u8,
-    pub area: u32,
-    pub sequence: u32,
-    pub start: u32,
-    pub end: u32,
-}
-
-// The correction is its letter, or 0 for none. All zero is an empty place.
-pub struct Place {
-    pub identity: Identity,
-    pub correction: u8,
-    pub marked: bool,
-}
 
 // The clock is that of the last accepted post, 0 before the first.
 pub struct Board {
@@ -47,12 +28,6 @@ pub struct Board {
 pub struct Posted {
     pub answer: u8,
     pub board: Board,
-}
-
-// What a message asks for: a refusal number, or 0 and the place that it would take.
-struct Claim {
-    answer: u8,
-    place: Place,
 }
 
 // Where a place goes: a refusal number, or 0 and the place's number.

@@ -1,16 +1,16 @@
 // Where a place goes on the board, and what is dropped before.
 ghost use mathlib.Core.Path.{_≡_};
 ghost use Rattle.lists.specs.Lists.{indexOf};
-ghost use Rattle.board.specs.Places.{emptyPlace};
+ghost use Rattle.places.specs.Places.{emptyPlace};
 ghost use Rattle.board.specs.Posts.{kept, dropped, holds, objection, Finds};
 use crate::Board;
-use crate::Identity;
-use crate::Place;
 use crate::Spot;
-use crate::places::empty_place;
-use crate::places::no_place;
-use crate::places::same_identity;
 use lists::both;
+use places::Identity;
+use places::Place;
+use places::empty_place;
+use places::no_place;
+use places::same_identity;
 
 fn kept_at(clock: u32, p: Place) -> Place
     ensures { λ r. ⌜ r ≡ kept clock p ⌝ }

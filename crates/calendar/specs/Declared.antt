@@ -6,7 +6,7 @@ use Rattle.groups.specs.declared.Group.{Group}
 use Rattle.calendar.specs.Gregorian.{firstDay, never, Falls}
 use Rattle.calendar.specs.Instants.{limitOf}
 
--- an instant "that has that day, hour and minute": its day falls in some month of the hundred years, and is that month's so-and-so-manyeth
+-- an instant "that has that day, hour and minute": its day falls in some month of the hundred years, and is that day of the month
 pub record Has (g : Group) (t : ℕ) : Type 0 where
   pub instant : t < never
   pub month : ℕ

@@ -11,10 +11,10 @@ use lib.ListN.{length, drop}
 use borrow.Author.Tests.{ltb-false, lt-ltb, le-ltb, eqb-true, eqb-false, eq-eqb, ne-eqb}
 use Rattle.lists.specs.Base.{places}
 use Rattle.lists.proofs.Choice.{by}
-use Rattle.board.specs.Boards.{goodBoard, refusalAt}
+use Rattle.places.specs.declared.Place.{Place}
+use Rattle.board.specs.Boards.{refusalAt}
 use Rattle.board.specs.declared.Board.{Board}
-use Rattle.board.specs.declared.Place.{Place}
-use Rattle.board.proofs.Invariant.{board-parts}
+use Rattle.board.proofs.Invariant.{board-parts, unrefused-good}
 use Rattle.listing.specs.Rows.{inForce, selected, IsRows, inserted, sortedAfter, rowsOf}
 use Rattle.listing.specs.Holding.{rowsIn, HoldsRows}
 use Rattle.listing.specs.Listings.{timeRecord, messageRecord, records, listingOf, listOf, told, Lists}
@@ -64,14 +64,6 @@ module _ (b : Board) (time : ℕ) (buffer : List ℕ) where
       (λ (z : eqb (refusalAt b time) 0 ≡ false). rw z (omega arith))
 
 -- What is listed.
-
-unrefused-good : (b : Board) (time : ℕ) → refusalAt b time ≡ 0 → goodBoard b ≡ true
-unfolding refusalAt
-unrefused-good b time h =
-    by (goodBoard b) (λ (t : goodBoard b ≡ true). t) (λ (f : goodBoard b ≡ false). absurd (never (rw f at h)))
-  where
-    never : _≡_ {A = ℕ} 36 0 → ⊥
-    never e = omega arith
 
 -- at answer 0 the board is good, so the rows listed are the places in force, each once, strictly in the order
 pub listed-rows : (b : Board) (time : ℕ) (buffer : List ℕ) → listOf b time buffer .answer ≡ 0 → IsRows time (b .places) (rowsOf time (b .places))

@@ -9,9 +9,9 @@ use lib.Dec.{ltb, eqb}
 use lib.ListN.{length, drop}
 use Rattle.lists.specs.Choice.{pick}
 use Rattle.figures.specs.Letters.{inLetters}
+use Rattle.places.specs.declared.Place.{Place}
 use Rattle.board.specs.Boards.{refusalAt}
 use Rattle.board.specs.declared.Board.{Board}
-use Rattle.board.specs.declared.Place.{Place}
 use Rattle.listing.specs.Rows.{rowsOf}
 use Rattle.listing.specs.declared.Listed.{Listed}
 

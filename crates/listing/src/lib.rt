@@ -10,9 +10,9 @@ mod ordering;
 mod rows;
 
 use board::Board;
-use board::Place;
 use pens::put;
 use pens::put_letters;
+use places::Place;
 use rows::Rows;
 use rows::rows_at;
 

@@ -1,14 +1,14 @@
 -- The laws of searching and testing a list, in the shapes that loops ask for.
 -- Assumes nothing.
 use mathlib.Core.Bool.{Bool, true, false, not, Bool·not-not}
-use mathlib.Core.List.{List, [], _∷_, _++_, map, append-nil}
-use mathlib.Core.Path.{_≡_, refl}
+use mathlib.Core.List.{List, [], _∷_, _++_, map, append-nil, List·Memᴰ, List·Memᴰ·head, List·Memᴰ·tail}
+use mathlib.Core.Path.{_≡_, refl, ap, _∙_}
 use Prim.Native.Nat.{ℕ, zero, suc, _+_, _-_, _≤_, _<_, zero-le, suc-le-suc}
 use native.Mathlib.Nat.{zero-add, suc-add, add-zero, not-suc-le-zero, le-of-suc-le-suc}
 use native.Mathlib.Numerals.{add-one}
 use native.Mathlib.Omega.{arith}
 use lib.Dec.{eqb}
-use lib.ListN.{length, take, drop, getD, length-drop, drop-of-length-le}
+use lib.ListN.{length, take, drop, getD, set, length-drop, drop-of-length-le}
 use lib.Seq.{drop-cons, take-all, length-take-le}
 use borrow.Author.Tests.{eq-eqb, eqb-true}
 use Rattle.lists.specs.Choice.{pick, both}
@@ -104,6 +104,23 @@ unfolding allOf
 all-at f [] d t i h = absurd (not-suc-le-zero h)
 all-at f (x ∷ xs) d t zero h = both-left (f x) (allOf f xs) t
 all-at f (x ∷ xs) d t (suc i) h = all-at f xs d (both-right (f x) (allOf f xs) t) i (le-of-suc-le-suc h)
+
+-- where each element passes by its place, all pass; and each that is in the list passes where all do
+pub all-by : {A : Type 0} (f : A → Bool) (xs : List A) (d : A) → ((j : ℕ) → j < length xs → f (getD xs j d) ≡ true) → allOf f xs ≡ true
+unfolding allOf
+all-by f [] d h = refl
+all-by f (x ∷ xs) d h = both-true (h 0 (suc-le-suc zero-le)) (all-by f xs d (λ j k. h (suc j) (suc-le-suc k)))
+
+pub all-among : {A : Type 0} (f : A → Bool) (xs : List A) (q : A) → allOf f xs ≡ true → List·Memᴰ q xs → f q ≡ true
+unfolding allOf
+all-among f (x ∷ xs) q h (List·Memᴰ·head e) = ap f e ∙ both-left (f x) (allOf f xs) h
+all-among f (x ∷ xs) q h (List·Memᴰ·tail m) = all-among f xs q (both-right (f x) (allOf f xs) h) m
+
+pub all-set : {A : Type 0} (f : A → Bool) (xs : List A) (k : ℕ) (y : A) → allOf f xs ≡ true → f y ≡ true → allOf f (set xs k y) ≡ true
+unfolding allOf
+all-set f [] k y t e = refl
+all-set f (x ∷ xs) zero y t e = both-true e (both-right (f x) (allOf f xs) t)
+all-set f (x ∷ xs) (suc k) y t e = both-true (both-left (f x) (allOf f xs) t) (all-set f xs k y (both-right (f x) (allOf f xs) t) e)
 
 pub all-append : {A : Type 0} (f : A → Bool) (xs ys : List A) → allOf f (xs ++ ys) ≡ both (allOf f xs) (allOf f ys)
 unfolding allOf

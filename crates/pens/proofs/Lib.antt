@@ -1,2 +1,3 @@
 pub mod PenLaws
+pub mod Pages
 pub mod Determined

@@ -1,7 +1,7 @@
 -- A pen that puts one text and then another has put both; words with a space before each are a line; and a text with room is put whole.
 -- Assumes nothing.
 use mathlib.Core.List.{List, [], _∷_, _++_, map, map-append, append-assoc, append-nil}
-use mathlib.Core.Path.{_≡_, refl, ap, sym, _∙_}
+use mathlib.Core.Path.{_≡_, refl, ap, sym, subst, _∙_}
 use Prim.Native.Nat.{ℕ, zero, suc, _+_, _-_, _/_, _%_, _≤_, _<_}
 use native.Mathlib.Nat.{add-zero, zero-add}
 use native.Mathlib.Numerals.{add-one, sub-one}
@@ -35,6 +35,10 @@ byte-put {x} {at} {page} h = record { says = rw (lt-ltb at (length page) h) }
 pub byte-stopped : {x at : ℕ} {page : List ℕ} → length page ≤ at → Puts (x ∷ []) at page at page
 unfolding strokes stroke
 byte-stopped {x} {at} {page} h = record { says = rw (le-ltb at (length page) h) }
+
+-- the same byte by another name
+pub put-alike : {x y at next : ℕ} {page after : List ℕ} → x ≡ y → Puts (x ∷ []) at page next after → Puts (y ∷ []) at page next after
+put-alike {x} {y} {at} {next} {page} {after} e f = subst (λ (z : ℕ). Puts (z ∷ []) at page next after) e f
 
 -- the next byte of a text
 pub one-more : (t : List ℕ) (i : ℕ) {at n m : ℕ} {page p q : List ℕ} → i < length t → Puts (take i t) at page n p → Puts (getD t i 0 ∷ []) n p m q

@@ -11,13 +11,13 @@ use lib.ListN.{length, getD}
 use borrow.Author.Tests.{leb-true, leb-false, ltb-true, ltb-false, eqb-true, le-leb, lt-leb, lt-ltb, le-ltb, ne-eqb}
 use Rattle.lists.proofs.Choice.{by, clash, both-true}
 use Rattle.message.specs.declared.Record.{Record}
-use Rattle.board.specs.Places.{noPlace, emptyPlace}
+use Rattle.places.specs.Places.{noPlace, emptyPlace}
 use Rattle.board.specs.Boards.{inRange, goodBoard, refusalAt}
-use Rattle.board.specs.Claims.{claimOf}
+use Rattle.places.specs.Claims.{claimOf}
 use Rattle.board.specs.Posts.{dropped, objection, spotOf, placeAt, settled, claimedOn, postOf}
 use Rattle.board.specs.declared.Board.{Board}
-use Rattle.board.specs.declared.Identity.{Identity}
-use Rattle.board.specs.declared.Place.{Place}
+use Rattle.places.specs.declared.Identity.{Identity}
+use Rattle.places.specs.declared.Place.{Place}
 use Rattle.board.proofs.SettleLaws.{spot-within}
 use Rattle.promises.specs.Calls.{History}
 use Rattle.promises.specs.Accepted.{IsReport, IsCancellation, Reported, Cancelled, Known, lastClock}

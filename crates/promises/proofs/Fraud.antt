@@ -14,10 +14,10 @@ use Rattle.grammar.specs.declared.Reply.{Reply}
 use Rattle.cases.specs.Cases.{cancelling, laterSaying}
 use Rattle.cases.proofs.Readings.{sample-read, cancellation-read}
 use Rattle.roundtrips.proofs.Outcomes.{reads}
-use Rattle.board.specs.Places.{noPlace}
+use Rattle.places.specs.Places.{noPlace}
 use Rattle.board.specs.Posts.{postOf}
 use Rattle.board.specs.declared.Board.{Board}
-use Rattle.board.specs.declared.Place.{Place}
+use Rattle.places.specs.declared.Place.{Place}
 use Rattle.board.specs.declared.Posted.{Posted}
 use Rattle.listing.specs.Listings.{timeRecord, records}
 use Rattle.listing.proofs.RowLaws.{time-length, records-length}

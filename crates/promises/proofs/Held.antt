@@ -15,15 +15,16 @@ use Rattle.lists.specs.ListAnswered.{indexOf, allOf}
 use Rattle.lists.proofs.Choice.{by, clash, both-left}
 use Rattle.lists.proofs.ListAnswered.{index-found, index-all, all-at}
 use Rattle.message.specs.declared.Record.{Record}
-use Rattle.board.specs.Places.{sameIdentity, noIdentity, noPlace, emptyPlace}
+use Rattle.places.specs.Places.{sameIdentity, noIdentity, noPlace, emptyPlace}
 use Rattle.board.specs.Boards.{distinct, goodBoard}
-use Rattle.board.specs.Claims.{claimOf}
+use Rattle.places.specs.Claims.{claimOf}
 use Rattle.board.specs.Posts.{kept, dropped, holds, objection, spotOf, postOf}
 use Rattle.board.specs.declared.Board.{Board}
-use Rattle.board.specs.declared.Identity.{Identity}
-use Rattle.board.specs.declared.Place.{Place}
-use Rattle.board.proofs.DistinctLaws.{same-identity-is, same-identity-refl, distinct-two}
-use Rattle.board.proofs.Invariant.{board-parts, post-good, no-place-empty, dropped-length}
+use Rattle.places.specs.declared.Identity.{Identity}
+use Rattle.places.specs.declared.Place.{Place}
+use Rattle.places.proofs.HeldLaws.{same-identity-is, same-identity-refl, no-place-empty}
+use Rattle.board.proofs.DistinctLaws.{distinct-two}
+use Rattle.board.proofs.Invariant.{board-parts, post-good, dropped-length}
 use Rattle.board.proofs.PostLaws.{accepted-parts, dropped-at}
 use Rattle.board.proofs.SettleLaws.{spot-within}
 

@@ -10,11 +10,11 @@ use lib.ListN.{length, drop}
 use Rattle.lists.proofs.Choice.{clash, determined}
 use Rattle.message.specs.declared.Record.{Record}
 use Rattle.board.specs.Boards.{emptyBoard}
-use Rattle.board.specs.Claims.{claimOf}
+use Rattle.places.specs.Claims.{claimOf}
 use Rattle.board.specs.Posts.{postOf}
 use Rattle.board.specs.declared.Board.{Board}
-use Rattle.board.specs.declared.Identity.{Identity}
-use Rattle.board.specs.declared.Place.{Place}
+use Rattle.places.specs.declared.Identity.{Identity}
+use Rattle.places.specs.declared.Place.{Place}
 use Rattle.listing.specs.Order.{Precedes, Before}
 use Rattle.listing.specs.Rows.{rowsOf}
 use Rattle.listing.specs.Listings.{Told, listOf}

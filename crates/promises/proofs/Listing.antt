@@ -12,11 +12,11 @@ use lib.ListN.{length, getD, drop}
 use borrow.Author.Tests.{leb-true, ltb-true, ltb-false, le-leb, lt-ltb, le-ltb, eq-eqb, ne-eqb, not-true}
 use Rattle.lists.specs.Choice.{pick}
 use Rattle.lists.proofs.Choice.{by, both-true, both-three}
-use Rattle.board.specs.Places.{noPlace, emptyPlace}
+use Rattle.places.specs.Places.{noPlace, emptyPlace}
 use Rattle.board.specs.Boards.{refusalAt}
 use Rattle.board.specs.declared.Board.{Board}
-use Rattle.board.specs.declared.Identity.{Identity}
-use Rattle.board.specs.declared.Place.{Place}
+use Rattle.places.specs.declared.Identity.{Identity}
+use Rattle.places.specs.declared.Place.{Place}
 use Rattle.board.proofs.Invariant.{board-parts}
 use Rattle.listing.specs.Order.{Before, precedes}
 use Rattle.listing.specs.Rows.{inForce, selected, inserted, sortedAfter, rowsOf}

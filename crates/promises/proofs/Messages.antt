@@ -18,12 +18,12 @@ use Rattle.calendar.specs.Gregorian.{never}
 use Rattle.calendar.specs.Instants.{startOf, endOf, targetOf}
 use Rattle.calendar.specs.Declared.{IsStart, IsEnd, IsTarget}
 use Rattle.calendar.proofs.CalendarLaws.{start-found, start-bound, start-complete, start-none, end-found, end-bound, end-complete, end-none, target-found, target-bound, target-complete, target-none}
-use Rattle.board.specs.Padded.{paddedOf}
-use Rattle.board.specs.Places.{noPlace}
-use Rattle.board.specs.Claims.{unclaimed, identityOf, reportPlace, targetPlace, ending, cancels as cancelsOf, timed, isTest, startAt, endAt, claimOf}
-use Rattle.board.proofs.ClaimLaws.{ended as board-ended, unended, untargeted, targeted, bad-record, a-test, no-start as unstarted, no-end as unended-claim, a-claim, timed-cancels, timed-reports}
-use Rattle.board.specs.declared.Identity.{Identity}
-use Rattle.board.specs.declared.Place.{Place}
+use Rattle.places.specs.Padded.{paddedOf}
+use Rattle.places.specs.Places.{noPlace}
+use Rattle.places.specs.Claims.{unclaimed, identityOf, reportPlace, targetPlace, ending, cancels as cancelsOf, timed, isTest, startAt, endAt, claimOf}
+use Rattle.places.proofs.ClaimLaws.{ended as board-ended, unended, untargeted, targeted, bad-record, a-test, no-start as unstarted, no-end as unended-claim, a-claim, timed-cancels, timed-reports}
+use Rattle.places.specs.declared.Identity.{Identity}
+use Rattle.places.specs.declared.Place.{Place}
 use Rattle.promises.specs.Accepted.{IsReport, IsCancellation}
 use Rattle.promises.specs.Answers.{NoTest, Concerns}
 use Rattle.promises.specs.Answers.Concerns.{reports, cancels}

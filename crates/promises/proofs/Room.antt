@@ -12,13 +12,13 @@ use borrow.Author.Tests.{not-true}
 use Rattle.lists.specs.Choice.{pick, either}
 use Rattle.lists.specs.ListAnswered.{allOf}
 use Rattle.lists.proofs.Choice.{by, clash, both-left, both-right, both-true, either-cases}
-use Rattle.board.specs.Places.{sameIdentity, noPlace, emptyPlace}
+use Rattle.places.specs.Places.{sameIdentity, noPlace, emptyPlace}
 use Rattle.board.specs.Boards.{differs, distinct}
 use Rattle.board.specs.Posts.{kept, dropped}
 use Rattle.board.specs.declared.Board.{Board}
-use Rattle.board.specs.declared.Identity.{Identity}
-use Rattle.board.specs.declared.Place.{Place}
-use Rattle.board.proofs.DistinctLaws.{same-identity-is, same-identity-refl}
+use Rattle.places.specs.declared.Identity.{Identity}
+use Rattle.places.specs.declared.Place.{Place}
+use Rattle.places.proofs.HeldLaws.{same-identity-is, same-identity-refl}
 use Rattle.board.proofs.Invariant.{board-parts, dropped-length}
 use Rattle.promises.specs.Calls.{History}
 use Rattle.promises.specs.Accepted.{Known, lastClock}

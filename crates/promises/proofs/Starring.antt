@@ -27,16 +27,16 @@ use Rattle.message.specs.declared.Record.{Record}
 use Rattle.cases.specs.Cases.{cancelling}
 use Rattle.calendar.specs.Gregorian.{monthLength, dayFrom, dayOfMonth}
 use Rattle.calendar.specs.Instants.{matches, onDay, instantIn, startOf, endOf, targetOf}
-use Rattle.board.specs.Padded.{padded, unpadded, heldSequence}
-use Rattle.board.specs.Places.{sameIdentity, noPlace, emptyPlace, heldIdentity, heldCorrection, heldPlace, goodPlace}
+use Rattle.places.specs.Padded.{padded, unpadded, heldSequence}
+use Rattle.places.specs.Places.{sameIdentity, noPlace, emptyPlace, heldIdentity, heldCorrection, heldPlace, goodPlace}
 use Rattle.board.specs.Boards.{distinct, goodPlaces, goodBoard, emptyBoard, refusalAt}
-use Rattle.board.specs.Claims.{reportPlace, targetPlace, ending, cancels, timed, claimOf}
+use Rattle.places.specs.Claims.{reportPlace, targetPlace, ending, cancels, timed, claimOf}
 use Rattle.board.specs.Posts.{dropped, objection, spotOf, accepted, placeAt, settled, claimedOn, postOf}
 use Rattle.listing.specs.Rows.{inForce, selected, inserted, sortedAfter, rowsOf}
 use Rattle.listing.specs.Listings.{timeRecord, messageRecord, records, listingOf, tells, listOf}
 use Rattle.board.specs.declared.Board.{Board}
-use Rattle.board.specs.declared.Identity.{Identity}
-use Rattle.board.specs.declared.Place.{Place}
+use Rattle.places.specs.declared.Identity.{Identity}
+use Rattle.places.specs.declared.Place.{Place}
 use Rattle.calendar.proofs.CalendarLaws.{case-leap-year, case-at-the-clock, case-at-the-limit}
 use Rattle.coordinates.proofs.Cases.{n00, s0000, s90, n9001}
 use Rattle.cases.proofs.Readings.{sample-read, sample-E180, sample-E181, sample-FCST, sample-NC, sample-open}

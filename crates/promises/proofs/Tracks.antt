@@ -14,14 +14,14 @@ use Rattle.lists.specs.ListAnswered.{allOf}
 use Rattle.lists.proofs.Choice.{by, clash}
 use Rattle.lists.proofs.ListAnswered.{all-at}
 use Rattle.message.specs.declared.Record.{Record}
-use Rattle.board.specs.Places.{sameIdentity, noPlace, emptyPlace}
+use Rattle.places.specs.Places.{sameIdentity, noPlace, emptyPlace}
 use Rattle.board.specs.Boards.{inRange, goodBoard, emptyBoard, refusalAt}
-use Rattle.board.specs.Claims.{claimOf}
+use Rattle.places.specs.Claims.{claimOf}
 use Rattle.board.specs.Posts.{objection, postOf}
 use Rattle.board.specs.declared.Board.{Board}
-use Rattle.board.specs.declared.Identity.{Identity}
-use Rattle.board.specs.declared.Place.{Place}
-use Rattle.board.proofs.DistinctLaws.{same-identity-is, same-identity-refl}
+use Rattle.places.specs.declared.Identity.{Identity}
+use Rattle.places.specs.declared.Place.{Place}
+use Rattle.places.proofs.HeldLaws.{same-identity-is, same-identity-refl}
 use Rattle.board.proofs.Invariant.{new-good, post-good}
 use Rattle.board.proofs.PostLaws.{accepted-parts, refused-unchanged}
 use Rattle.promises.specs.Calls.{Call, History, Run}

@@ -14,8 +14,8 @@ use Rattle.message.specs.Records.{good}
 use Rattle.message.specs.declared.Form.the-variants.{Cancellation, Reported as Report}
 use Rattle.message.specs.declared.Record.{Record}
 use Rattle.calendar.specs.Declared.{IsStart, IsEnd, IsTarget}
-use Rattle.board.specs.Padded.{paddedOf}
-use Rattle.board.specs.declared.Identity.{Identity}
+use Rattle.places.specs.Padded.{paddedOf}
+use Rattle.places.specs.declared.Identity.{Identity}
 use Rattle.promises.specs.Calls.{Call, History}
 use Rattle.promises.specs.Calls.Call.{posted, listed}
 

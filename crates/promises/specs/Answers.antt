@@ -13,7 +13,7 @@ use Rattle.message.specs.Records.{good}
 use Rattle.message.specs.declared.Form.the-variants.{Test, Cancellation}
 use Rattle.message.specs.declared.Record.{Record}
 use Rattle.calendar.specs.Declared.{IsStart, IsEnd, IsTarget}
-use Rattle.board.specs.declared.Identity.{Identity}
+use Rattle.places.specs.declared.Identity.{Identity}
 use Rattle.promises.specs.Calls.{History}
 use Rattle.promises.specs.Accepted.{IsReport, IsCancellation, Reported, Cancelled, Known, lastClock}
 

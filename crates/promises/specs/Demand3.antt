@@ -9,8 +9,8 @@ use mathlib.Core.Path.{_≡_}
 use Prim.Native.Nat.{ℕ, _≤_, _<_}
 use lib.ListN.{length, drop}
 use Rattle.message.specs.declared.Record.{Record}
-use Rattle.board.specs.declared.Identity.{Identity}
-use Rattle.board.specs.declared.Place.{Place}
+use Rattle.places.specs.declared.Identity.{Identity}
+use Rattle.places.specs.declared.Place.{Place}
 use Rattle.promises.specs.Calls.{Call, History}
 use Rattle.promises.specs.Calls.Call.{posted, listed}
 use Rattle.promises.specs.Accepted.{IsReport, Reported, Known, lastClock}

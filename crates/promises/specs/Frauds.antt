@@ -10,7 +10,7 @@ use lib.ListN.{length}
 use Rattle.message.specs.declared.Record.{Record}
 use Rattle.grammar.specs.declared.Reply.{Reply}
 use Rattle.writer.specs.declared.Written.{Written}
-use Rattle.board.specs.declared.Place.{Place}
+use Rattle.places.specs.declared.Place.{Place}
 use Rattle.promises.specs.Calls.{History, Happens}
 use Rattle.promises.specs.Calls.Call.{posted, listed}
 use Rattle.promises.specs.InForce.{IsListing, listing}

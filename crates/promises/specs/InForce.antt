@@ -7,7 +7,7 @@ use mathlib.Core.List.{List, _++_, List·Memᴰ, Pairwise}
 use mathlib.Core.Path.{_≡_}
 use Prim.Native.Nat.{ℕ, _≤_, _<_}
 use lib.ListN.{length, drop}
-use Rattle.board.specs.declared.Place.{Place}
+use Rattle.places.specs.declared.Place.{Place}
 use Rattle.listing.specs.Order.{Before}
 use Rattle.listing.specs.Listings.{timeRecord, records}
 use Rattle.promises.specs.Calls.{History}

@@ -1,3 +1,1 @@
-pub mod Pages
-pub mod Counted
 pub mod NumberLaws

@@ -1,8 +1,7 @@
 -- `put_record` meets its contract: the parts of the record, one behind the other. Assumes nothing.
 use borrow.Author.Needs.{needs}
-use Rattle.pens.proofs.PenLaws.{then}
+use Rattle.pens.proofs.PenLaws.{then, put-alike}
 use Rattle.listing.specs.Listings.{messageRecord}
-use Rattle.listing.proofs.Loops.{put-alike}
 use Rattle.listing.proofs.put_record.Statement.{statement}
 use Rattle.listing.proofs.put_record.Tie as tie
 

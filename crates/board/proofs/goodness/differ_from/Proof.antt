@@ -7,9 +7,9 @@ use lib.ListN.{length, drop}
 use borrow.Author.Needs.{needs}
 use Rattle.lists.specs.Lists.{allOf}
 use Rattle.lists.proofs.Lists.{all-past, all-stop, all-end}
-use Rattle.board.specs.Places.{noPlace, sameIdentity}
-use Rattle.board.specs.declared.Identity.{Identity}
-use Rattle.board.specs.declared.Place.{Place}
+use Rattle.places.specs.Places.{noPlace, sameIdentity}
+use Rattle.places.specs.declared.Identity.{Identity}
+use Rattle.places.specs.declared.Place.{Place}
 use Rattle.board.proofs.goodness.differ_from.Statement.{statement}
 use Rattle.board.proofs.goodness.differ_from.Tie as tie
 

@@ -1,4 +1,5 @@
 -- `good_places` meets its contract. Assumes nothing.
+use Rattle.places.specs.Places.{noPlace, goodPlace}
 use Rattle.board.proofs.BoardLaws.{places-all}
 use mathlib.Core.Path.{_≡_, refl, sym, _∙_}
 use Prim.Native.Nat.{_-_, _≤_}
@@ -8,7 +9,6 @@ use borrow.Author.Needs.{needs}
 use borrow.Author.Tests.{not-true, not-false}
 use Rattle.lists.specs.Lists.{allOf}
 use Rattle.lists.proofs.Lists.{all-past, all-stop, all-end}
-use Rattle.board.specs.Places.{noPlace, goodPlace}
 use Rattle.board.proofs.goodness.good_places.Statement.{statement}
 use Rattle.board.proofs.goodness.good_places.Tie as tie
 

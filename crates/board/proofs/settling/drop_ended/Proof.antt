@@ -1,13 +1,13 @@
 -- `drop_ended` meets its contract. Assumes nothing.
 use mathlib.Core.List.{_++_, map}
 use mathlib.Core.Path.{_≡_, refl, sym, _∙_}
-use Prim.Native.Nat.{_-_, _≤_, _+_}
+use Prim.Native.Nat.{_-_, _≤_}
 use native.Mathlib.Omega.{arith}
 use lib.ListN.{length, drop, take}
 use borrow.Author.Needs.{needs}
-use Rattle.board.specs.Places.{noPlace}
+use Rattle.lists.proofs.Sweeps.{swept-one, swept-all}
+use Rattle.places.specs.Places.{noPlace}
 use Rattle.board.specs.Posts.{kept, dropped}
-use Rattle.board.proofs.BoardLaws.{swept-one, swept-all}
 use Rattle.board.proofs.settling.drop_ended.Statement.{statement}
 use Rattle.board.proofs.settling.drop_ended.Tie as tie
 

@@ -6,7 +6,7 @@ use lib.ListN.{length}
 use borrow.Author.Needs.{needs}
 use Rattle.lists.specs.Lists.{indexOf, indexFrom}
 use Rattle.lists.proofs.Lists.{from-here, from-past, from-none, from-zero}
-use Rattle.board.specs.Places.{noPlace, emptyPlace}
+use Rattle.places.specs.Places.{noPlace, emptyPlace}
 use Rattle.board.proofs.settling.find_empty.Statement.{statement}
 use Rattle.board.proofs.settling.find_empty.Tie as tie
 

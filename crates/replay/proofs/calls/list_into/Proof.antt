@@ -1,10 +1,17 @@
 -- `calls::list_into` tells no more than the buffer holds: the count lies within it. Assumes nothing.
-use Rattle.io.proofs.Counting.{front}
-use Rattle.replay.proofs.Counted.{counted}
+use mathlib.Core.Path.{ap}
+use Prim.Native.Nat.{_≤_}
 use native.Mathlib.Omega.{arith}
+use lib.ListN.{length}
 use borrow.Author.Needs.{needs}
+use Rattle.io.proofs.Counting.{front}
+use Rattle.listing.specs.Listings.{Told}
+use Rattle.listing.proofs.ListLaws.{within}
 use Rattle.replay.proofs.calls.list_into.Statement.{statement}
 use Rattle.replay.proofs.calls.list_into.Tie as tie
+
+counted : (c : tie.After-list) → c .list .result .count ≤ length (c .before .before .before .args .out .now)
+counted c = omega (arith, ap (λ (t : Told). t .count) (c .list .ensures), within (c .before .before .before .args .board) (c .before .before .before .args .time) (c .before .before .before .args .out .now))
 
 list-requires : tie.Need-list-requires
 list-requires c κs = search needs
@@ -13,10 +20,10 @@ cast-tell-listed : tie.Need-cast-tell-listed
 cast-tell-listed c = search needs
 
 slice-reshare-prefix-tell-listed : tie.Need-slice-reshare-prefix-tell-listed
-slice-reshare-prefix-tell-listed c = omega (arith, counted _ _ _ _ (c .before .before .before .list .ensures))
+slice-reshare-prefix-tell-listed c = omega (arith, counted (c .before .before .before))
 
 slice-aggregate-tell-listed : tie.Need-slice-aggregate-tell-listed
-slice-aggregate-tell-listed c = front _ _ (omega (arith, counted _ _ _ _ (c .before .before .before .before .list .ensures)))
+slice-aggregate-tell-listed c = front _ _ (omega (arith, counted (c .before .before .before .before)))
 
 tell-listed-requires : tie.Need-tell-listed-requires
 tell-listed-requires c κs = search needs

@@ -1,6 +1,6 @@
 -- `telling::print` prints no more than the line holds: the pen stays on it. Assumes nothing.
 use Rattle.io.proofs.Counting.{front}
-use Rattle.replay.proofs.Pages.{inside}
+use Rattle.pens.proofs.Pages.{inside}
 use borrow.Author.Needs.{needs}
 use Rattle.replay.proofs.telling.print.Statement.{statement}
 use Rattle.replay.proofs.telling.print.Tie as tie

@@ -1,5 +1,5 @@
 -- `telling::put_answer` stays within the line. Assumes nothing.
-use Rattle.replay.proofs.Pages.{inside}
+use Rattle.pens.proofs.Pages.{inside}
 use Prim.Native.Nat.{zero-le}
 use borrow.Author.Needs.{needs}
 use Rattle.replay.proofs.telling.put_answer.Statement.{statement}

@@ -4,7 +4,7 @@ use Prim.Native.Nat.{_-_, _≤_, zero-le}
 use native.Mathlib.Omega.{arith}
 use borrow.Author.Needs.{needs}
 use lib.ListN.{length}
-use Rattle.replay.proofs.Pages.{inside}
+use Rattle.pens.proofs.Pages.{inside}
 use Rattle.replay.proofs.telling.put_hex.Statement.{statement}
 use Rattle.replay.proofs.telling.put_hex.Tie as tie
 

@@ -1,5 +1,5 @@
 -- `telling::put_number` stays within the line. Assumes nothing.
-use Rattle.replay.proofs.Pages.{inside}
+use Rattle.pens.proofs.Pages.{inside}
 use borrow.Author.Needs.{needs}
 use Rattle.replay.proofs.telling.put_number.Statement.{statement}
 use Rattle.replay.proofs.telling.put_number.Tie as tie

@@ -1,5 +1,5 @@
 -- `telling::tell_listed` stays within the line. Assumes nothing.
-use Rattle.replay.proofs.Pages.{inside}
+use Rattle.pens.proofs.Pages.{inside}
 use borrow.Author.Needs.{needs}
 use Rattle.replay.proofs.telling.tell_listed.Statement.{statement}
 use Rattle.replay.proofs.telling.tell_listed.Tie as tie
