@@ -54,6 +54,11 @@ pub sample-E181 : readOf (reporting "E OF E181 SFC/FL100 MOV E 20KT WKN=") ≡ r
 unfolding opened
 sample-E181 = refl
 
+-- "N9001 is refused"
+pub sample-N9001 : readOf (reporting "N OF N9001 SFC/FL100 MOV E 20KT WKN=") ≡ refusal 9 100
+unfolding opened
+sample-N9001 = refl
+
 -- "`FCST` for WKN: 11 at 126."
 pub sample-FCST : readOf (reporting "E OF E114 SFC/FL100 MOV E 20KT FCST=") ≡ refusal 11 126
 unfolding opened

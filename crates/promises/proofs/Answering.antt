@@ -2,7 +2,6 @@
 -- Assumes nothing.
 use mathlib.Core.Bool.{Bool, true, false, not}
 use mathlib.Core.List.{List}
-use mathlib.Core.Logic.{_⊎_, inl, inr, ⊎-elim}
 use mathlib.Core.Path.{_≡_, refl, sym, ap, subst, _∙_}
 use Prim.Native.Nat.{ℕ, _≤_, _<_}
 use native.Mathlib.Omega.{arith}
@@ -10,6 +9,7 @@ use lib.Dec.{leb, ltb, eqb}
 use lib.ListN.{length, getD}
 use borrow.Author.Tests.{leb-true, leb-false, ltb-true, ltb-false, eqb-true, le-leb, lt-leb, lt-ltb, le-ltb, ne-eqb}
 use Rattle.lists.proofs.Choice.{by, clash, both-true}
+use Rattle.words.proofs.Ranges.{between-low, between-high}
 use Rattle.message.specs.declared.Record.{Record}
 use Rattle.places.specs.Places.{noPlace, emptyPlace}
 use Rattle.board.specs.Boards.{inRange, goodBoard, refusalAt}
@@ -35,22 +35,18 @@ use Rattle.promises.proofs.Room.{holds-on, not-full, is-full}
 -- "36 …; 16 clock outside its range; 17 clock before the board's": of posts and listings alike.
 
 pub data Clocked (h : History) (clock : ℕ) : ℕ → Type 0 where
-  outside : (clock < 1440) ⊎ (52591679 < clock) → Clocked h clock 16
+  outside : (InRange clock → ⊥) → Clocked h clock 16
   early : InRange clock → clock < lastClock h → Clocked h clock 17
   timely : Timely h clock → Clocked h clock 0
 
 range-in : (clock : ℕ) → InRange clock → inRange clock ≡ true
 range-in clock r = both-true (le-leb 1440 clock (r .from)) (le-leb clock 52591679 (r .until))
 
-range-out : (clock : ℕ) → (clock < 1440) ⊎ (52591679 < clock) → inRange clock ≡ false
-range-out clock (inl l) = rw (lt-leb 1440 clock l)
-range-out clock (inr l) = by (leb 1440 clock) (λ t. rw (t, lt-leb clock 52591679 l)) (λ f. rw f)
+in-range : (clock : ℕ) → inRange clock ≡ true → InRange clock
+in-range clock t = record { from = between-low 1440 52591679 clock t; until = between-high 1440 52591679 clock t }
 
-ranged : (clock : ℕ) → ((clock < 1440) ⊎ (52591679 < clock)) ⊎ InRange clock
-ranged clock =
-    by (leb 1440 clock)
-    (λ t. by (leb clock 52591679) (λ u. inr (record { from = leb-true 1440 clock t; until = leb-true clock 52591679 u })) (λ f. inl (inr (leb-false clock 52591679 f))))
-    (λ f. inl (inl (leb-false 1440 clock f)))
+range-out : (clock : ℕ) → (InRange clock → ⊥) → inRange clock ≡ false
+range-out clock o = by (inRange clock) (λ t. absurd (o (in-range clock t))) (λ f. f)
 
 module _ {h : History} {b : Board} (t : Tracks h b) (clock : ℕ) where
   clocked-is : {n : ℕ} → Clocked h clock n → refusalAt b clock ≡ n
@@ -61,11 +57,11 @@ module _ {h : History} {b : Board} (t : Tracks h b) (clock : ℕ) where
 
   clock-cause : (n : ℕ) × Clocked h clock n
   clock-cause =
-      ⊎-elim (λ (o : (clock < 1440) ⊎ (52591679 < clock)). (16, outside o))
-      (λ (r : InRange clock). by (ltb clock (lastClock h))
-      (λ u. (17, early r (ltb-true clock (lastClock h) u)))
-      (λ f. (0, timely (record { ranged = r; no-earlier = ltb-false clock (lastClock h) f }))))
-      (ranged clock)
+      by (inRange clock)
+      (λ u. by (ltb clock (lastClock h))
+      (λ v. (17, early (in-range clock u) (ltb-true clock (lastClock h) v)))
+      (λ f. (0, timely (record { ranged = in-range clock u; no-earlier = ltb-false clock (lastClock h) f }))))
+      (λ f. (16, outside (λ r. clash (inRange clock) (range-in clock r) f)))
 
   pub clocked : Clocked h clock (refusalAt b clock)
   clocked = let c = clock-cause in subst (λ (n : ℕ). Clocked h clock n) (sym (clocked-is (c .1))) (c .1)

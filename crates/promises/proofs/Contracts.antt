@@ -1,12 +1,16 @@
 -- Demands 1 and 2 hold: what crates grammar, roundtrips, board and listing have proved of the contracts, gathered.
 -- Assumes nothing.
-use mathlib.Core.Bool.{true}
+use mathlib.Core.Bool.{true, false, not}
 use mathlib.Core.List.{List, []}
 use mathlib.Core.Logic.{_↔_}
 use mathlib.Core.Path.{_≡_, refl, sym, ap, subst, _∙_}
 use Prim.Native.Nat.{ℕ, _<_, _≤_}
 use native.Mathlib.Omega.{arith}
-use Rattle.lists.proofs.Choice.{determined}
+use lib.Dec.{leb, ltb, eqb}
+use lib.ListN.{length, getD}
+use Rattle.lists.specs.Choice.{both}
+use Rattle.lists.specs.Lists.{indexOf}
+use Rattle.lists.proofs.Choice.{by, determined}
 use Rattle.message.specs.Records.{good}
 use Rattle.message.specs.declared.Record.{Record}
 use Rattle.grammar.specs.Judged.{messageWords}
@@ -21,17 +25,25 @@ use Rattle.writer.specs.declared.Written.{Written}
 use Rattle.roundtrips.specs.Trips.{MayRead, MayWrite}
 use Rattle.roundtrips.proofs.Outcomes.{reads, writes}
 use Rattle.roundtrips.proofs.RoundTrips as trips
-use Rattle.board.specs.Boards.{emptyBoard}
-use Rattle.board.specs.Posts.{postOf}
+use Rattle.places.specs.Places.{noPlace, emptyPlace}
+use Rattle.places.specs.Claims.{claimOf}
+use Rattle.places.specs.declared.Place.{Place}
+use Rattle.board.specs.Boards.{inRange, goodBoard, emptyBoard, refusalAt}
+use Rattle.board.specs.Posts.{dropped, holds, objection, spotOf, placeAt, settled, claimedOn, postOf}
 use Rattle.board.specs.declared.Board.{Board}
 use Rattle.board.specs.declared.Posted.{Posted}
 use Rattle.board.proofs.PostLaws.{refused-unchanged}
-use Rattle.listing.specs.Listings.{Told, listOf}
+use Rattle.listing.specs.Listings.{Told, listingOf, listOf}
 use Rattle.listing.proofs.ListLaws.{refused-untouched}
 use Rattle.promises.specs.Calls.{MayBegin, MayPost, MayList}
 use Rattle.promises.specs.Demand1.{Demand1}
 use Rattle.promises.specs.Demand2.{Says, Demand2}
+use Rattle.promises.proofs.Messages.{Cause, claim-cause}
+use Rattle.promises.proofs.Messages.Cause.{bad, test, no-start, no-end, no-target, ended, report, cancellation}
 use Rattle.promises.proofs.Histories.{may-begin, may-post, may-list, begins-so, posts-so, lists-so}
+
+pub may-read : (bulletin : List ℕ) → MayRead bulletin (readOf bulletin)
+may-read b = record { lent = ([], tt); place = (0, 0); name = 0; allowed = refl }
 
 -- Demand 1.
 
@@ -66,6 +78,73 @@ refused-listing b time buffer after answer count m n =
     let k = refused-untouched b time buffer (λ e. n (ap (λ (z : Told). z .answer) same ∙ e)) in
     (ap (λ (z : Told). z .count) same ∙ k .0, ap (λ (z : Told). z .buffer) same ∙ k .1)
 
+-- 36: a board that is not good, and nothing else.
+
+bad-refusal : (b : Board) (clock : ℕ) → goodBoard b ≡ false → refusalAt b clock ≡ 36
+unfolding refusalAt
+bad-refusal b clock f = rw f
+
+good-refusal : (b : Board) (clock : ℕ) → goodBoard b ≡ true → refusalAt b clock ≡ 36 → ⊥
+unfolding refusalAt
+good-refusal b clock g =
+    rw g (by (inRange clock)
+    (λ t. rw t (by (ltb clock (b .clock)) (λ u. rw u (λ e. absurd (omega (arith, e)))) (λ u. rw u (λ e. absurd (omega (arith, e))))))
+    (λ t. rw t (λ e. absurd (omega (arith, e)))))
+
+objection-36 : (q p : Place) → objection q p ≡ 36 → ⊥
+unfolding objection
+objection-36 q p =
+    by (both (q .marked) (not (p .marked)))
+    (λ t. rw t (λ e. absurd (omega (arith, e))))
+    (λ t. rw t (by (q .marked)
+    (λ u. rw u (λ e. absurd (omega (arith, e))))
+    (λ u. rw u (by (both (not (p .marked)) (leb (p .correction) (q .correction))) (λ v. rw v (λ e. absurd (omega (arith, e)))) (λ v. rw v (λ e. absurd (omega (arith, e))))))))
+
+spot-36 : (ps : List Place) (p : Place) → spotOf ps p .answer ≡ 36 → ⊥
+unfolding spotOf
+spot-36 ps p =
+    by (ltb (indexOf (holds (p .identity)) ps) (length ps))
+    (λ t. rw t (objection-36 (getD ps (indexOf (holds (p .identity)) ps) noPlace) p))
+    (λ t. rw t (by (ltb (indexOf emptyPlace ps) (length ps)) (λ u. rw u (λ e. absurd (omega (arith, e)))) (λ u. rw u (λ e. absurd (omega (arith, e))))))
+
+cause-36 : {clock n : ℕ} {r : Record} {p : Place} → Cause clock r n p → n ≡ 36 → ⊥
+cause-36 (bad f) e = omega (arith, e)
+cause-36 (test g f) e = omega (arith, e)
+cause-36 (no-start c n) e = omega (arith, e)
+cause-36 (no-end c s n) e = omega (arith, e)
+cause-36 (no-target g f s t n) e = omega (arith, e)
+cause-36 (ended c l) e = omega (arith, e)
+cause-36 (report m l) e = omega (arith, e)
+cause-36 (cancellation m l) e = omega (arith, e)
+
+post-36 : (b : Board) (clock : ℕ) (r : Record) → (postOf b clock r .answer ≡ 36) ↔ (goodBoard b ≡ false)
+unfolding postOf claimedOn settled placeAt
+post-36 b clock r = (forth, λ f. rw (bad-refusal b clock f))
+  where
+    forth : postOf b clock r .answer ≡ 36 → goodBoard b ≡ false
+    forth =
+        by (goodBoard b)
+        (λ g. by (eqb (refusalAt b clock) 0)
+        (λ t. rw t (by (eqb (claimOf clock r .answer) 0)
+        (λ u. rw u (by (eqb (spotOf (dropped clock (b .places)) (claimOf clock r .place) .answer) 0)
+        (λ v. rw v (λ e. absurd (omega (arith, e))))
+        (λ v. rw v (λ e. absurd (spot-36 (dropped clock (b .places)) (claimOf clock r .place) e)))))
+        (λ u. rw u (λ e. absurd (cause-36 (claim-cause clock r) e)))))
+        (λ t. rw t (λ e. absurd (good-refusal b clock g e))))
+        (λ f e. f)
+
+list-36 : (b : Board) (time : ℕ) (buffer : List ℕ) → (listOf b time buffer .answer ≡ 36) ↔ (goodBoard b ≡ false)
+unfolding listOf
+list-36 b time buffer = (forth, λ f. rw (bad-refusal b time f))
+  where
+    forth : listOf b time buffer .answer ≡ 36 → goodBoard b ≡ false
+    forth =
+        by (goodBoard b)
+        (λ g. by (eqb (refusalAt b time) 0)
+        (λ t. rw t (by (ltb (length buffer) (length (listingOf time (b .places)))) (λ u. rw u (λ e. absurd (omega (arith, e)))) (λ u. rw u (λ e. absurd (omega (arith, e))))))
+        (λ t. rw t (λ e. absurd (good-refusal b time g e))))
+        (λ f e. f)
+
 pub demand-1 : Demand1
 demand-1 =
     record {
@@ -80,6 +159,15 @@ demand-1 =
       one-posting = one-posting;
       one-listing = one-listing;
       fixed = fixed;
+      written = λ r buffer after w m. trips.three-outcomes m;
+      bad-board-post =
+          λ b after clock r answer m.
+          let same : answer ≡ postOf b clock r .answer = ap (λ (z : Posted). z .answer) (posts-so m) in
+          (λ e. post-36 b clock r .0 (sym same ∙ e), λ f. same ∙ post-36 b clock r .1 f);
+      bad-board-list =
+          λ b time buffer after answer count m.
+          let same : answer ≡ listOf b time buffer .answer = ap (λ (z : Told). z .answer) (lists-so m) in
+          (λ e. list-36 b time buffer .0 (sym same ∙ e), λ f. same ∙ list-36 b time buffer .1 f);
       refused-writing = refused-writing;
       refused-post = refused-post;
       refused-listing = refused-listing;
@@ -87,20 +175,19 @@ demand-1 =
 
 -- Demand 2.
 
-says : {bulletin : List ℕ} {p : Reply} → Replied bulletin p → (r : Record) → p ≡ acceptance r → Says bulletin r
-says (unreadable h) r e = absurd (omega (arith, h, ap (λ (p : Reply). p .number) e))
-says (readAs {r = s} c g ws) r e =
-    let same : s ≡ r = ap (λ (p : Reply). p .message) e in
-    record { readable = c; sound = subst (λ (x : Record). good x ≡ true) same g; words = ws ∙ ap messageWords same }
-says (refusedAs c low high at) r e = absurd (omega (arith, low, ap (λ (p : Reply). p .number) e))
+taken : {bulletin : List ℕ} {p : Reply} → Replied bulletin p → p .number ≡ 0 → Says bulletin (p .message)
+taken (unreadable h) e = absurd (omega (arith, h, e))
+taken (readAs c g ws) e = record { readable = c; sound = g; words = ws }
+taken (refusedAs c low high at) e = absurd (omega (arith, low, e))
 
-takes-exactly : (bulletin : List ℕ) (p : Reply) → MayRead bulletin p → (r : Record) → (p ≡ acceptance r) ↔ Says bulletin r
-takes-exactly b p m r = (λ e. says (fixed b p .0 m) r e, λ s. reads m ∙ sym (grammar.read-determined b (acceptance r) (readAs (s .readable) (s .sound) (s .words))))
+takes-all : (bulletin : List ℕ) (p : Reply) → MayRead bulletin p → (r : Record) → Says bulletin r → p ≡ acceptance r
+takes-all b p m r s = reads m ∙ sym (grammar.read-determined b (acceptance r) (readAs (s .readable) (s .sound) (s .words)))
 
-pub demand-2 : Demand2
+pub demand-2 : Demand2 MayRead MayWrite
 demand-2 =
     record {
-      takes-exactly = takes-exactly;
+      takes-only = λ b p m e. taken (fixed b p .0 m) e;
+      takes-all = takes-all;
       one-meaning = grammar.one-meaning;
       written-then-read = λ r buffer after w p g h m n. trips.written-then-read g h m n;
       read-then-written = λ t buffer after p w c m e h n. trips.read-then-written c m e h n;

@@ -1,100 +1,149 @@
--- The four frauds are excluded: the paper's own cases show each of them up.
+-- The four frauds are excluded, and every board that meets demand 3 behaves as ours: the paper's own cases show each fraud up.
 -- Assumes nothing.
-use mathlib.Core.Bool.{true, false}
-use mathlib.Core.List.{List, _∷_, _++_}
-use mathlib.Core.Logic.{_⊎_, ⊎-elim}
-use mathlib.Core.Path.{_≡_, refl, sym, ap, _∙_}
-use Prim.Native.Nat.{ℕ, _+_, _*_}
+use mathlib.Core.List.{List, [], _∷_, _++_}
+use mathlib.Core.Logic.{_↔_}
+use mathlib.Core.Path.{_≡_, refl, sym, ap, subst, _∙_}
+use Prim.Native.Nat.{ℕ}
 use native.Mathlib.Omega.{arith}
-use lib.ListN.{length, getD, length-append}
-use Rattle.lists.proofs.Choice.{clash}
+use lib.ListN.{length, drop, getD}
 use Rattle.message.specs.Sample.{sample, sampleText}
 use Rattle.message.specs.declared.Record.{Record}
+use Rattle.grammar.specs.Reads.{acceptance, readOf}
 use Rattle.grammar.specs.declared.Reply.{Reply}
 use Rattle.cases.specs.Cases.{cancelling, laterSaying}
 use Rattle.cases.proofs.Readings.{sample-read, cancellation-read}
-use Rattle.roundtrips.proofs.Outcomes.{reads}
-use Rattle.places.specs.Places.{noPlace}
-use Rattle.board.specs.Posts.{postOf}
-use Rattle.board.specs.declared.Board.{Board}
+use Rattle.writer.specs.declared.Written.{Written}
 use Rattle.places.specs.declared.Place.{Place}
-use Rattle.board.specs.declared.Posted.{Posted}
-use Rattle.listing.specs.Listings.{timeRecord, records}
-use Rattle.listing.proofs.RowLaws.{time-length, records-length}
-use Rattle.promises.specs.Calls.{History, Happens}
-use Rattle.promises.specs.Calls.Call.{listed}
+use Rattle.board.specs.declared.Board.{Board}
+use Rattle.listing.specs.Listings.{Told}
+use Rattle.promises.specs.Calls.{History, Run, Happens}
+use Rattle.promises.specs.Calls.Call.{posted, listed}
+use Rattle.promises.specs.Calls.Run.{begun, then-posted, then-listed}
 use Rattle.promises.specs.InForce.{IsListing, listing, ListAnswered}
 use Rattle.promises.specs.InForce.ListAnswered.{outside, early, short, whole}
-use Rattle.promises.specs.Frauds.{Reader, BoardMaker, first, FraudsExcluded}
-use Rattle.promises.proofs.Histories.{begins-so, posts-so, lists}
+use Rattle.promises.specs.Demand2.{Says, Demand2}
+use Rattle.promises.specs.Demand3.{Demand3}
+use Rattle.promises.specs.Frauds.{MeetsDemand2, RefusesEverything, OneFixedRecord, FraudsExcluded}
+use Rattle.promises.specs.Starred.{hex, inPairs, page}
+use Rattle.promises.proofs.Histories.{may-begin, demand-3}
+use Rattle.promises.proofs.Contracts.{may-read, demand-2}
 use Rattle.promises.proofs.Listing.{one-listing}
-use Rattle.promises.proofs.Starring.{samplePlace, cancelledPlace, boardAt, sample-posted, sample-cancelled}
+use Rattle.promises.proofs.Starring.{samplePlace, cancelledPlace, boardAt, sampleRecord, sample-posted, sample-cancelled, listed-meanwhile, listed-cancelled}
 
--- The reader.
+-- Readers.
 
-sample-as : (m : Reader) → (m .read sampleText .number ≡ 0) × (m .read sampleText .message ≡ sample)
-sample-as m = let e = reads (m .kept sampleText) ∙ sample-read in (ap (λ (p : Reply). p .number) e, ap (λ (p : Reply). p .message) e)
+says : (bulletin : List ℕ) (r : Record) → readOf bulletin ≡ acceptance r → Says bulletin r
+says bulletin r e =
+    subst (Says bulletin) (ap (λ (p : Reply). p .message) e) (demand-2 .takes-only bulletin (readOf bulletin) (may-read bulletin) (ap (λ (p : Reply). p .number) e))
 
-abbrev cancellationText : List ℕ
-cancellationText = laterSaying "QBBB NORTH SOUND FIR CNL SIGMET 1 180830/181230="
+-- whoever meets demand 2 reads what the paper's reader reads, as the same record
+module _ {Reads : List ℕ → Reply → Type 0} {Writes : Record → List ℕ → Written → List ℕ → Type 0} (m : MeetsDemand2 Reads Writes) (bulletin : List ℕ) (r : Record) (e : readOf bulletin ≡ acceptance r) where
+  reply-is : m .replies bulletin .0 ≡ acceptance r
+  reply-is = m .demand .takes-all bulletin (m .replies bulletin .0) (m .replies bulletin .1) r (says bulletin r e)
 
-cancellation-as : (m : Reader) → (m .read cancellationText .number ≡ 0) × (m .read cancellationText .message ≡ cancelling)
-cancellation-as m = let e = reads (m .kept cancellationText) ∙ cancellation-read in (ap (λ (p : Reply). p .number) e, ap (λ (p : Reply). p .message) e)
+  refuses-not : RefusesEverything Reads → ⊥
+  refuses-not f = f bulletin (m .replies bulletin .0) (m .replies bulletin .1) (ap (λ (p : Reply). p .number) reply-is)
 
--- the sample's sequence is 1 and the cancellation's 2
+  fixed-so : (x : Record) → OneFixedRecord Reads x → r ≡ x
+  fixed-so x f =
+      sym (ap (λ (p : Reply). p .message) reply-is) ∙ f bulletin (m .replies bulletin .0) (m .replies bulletin .1) (ap (λ (p : Reply). p .number) reply-is)
+
+-- the sample's sequence is 1 and that of its cancellation 2
 two-records : sample ≡ cancelling → ⊥
 unfolding sample
 two-records e = absurd (omega (arith, ap (λ (r : Record). r .line .sequence .number) e))
 
--- The board.
+-- Boards: the answer to a listing is one.
 
-module _ (m : BoardMaker) where
-  posted-as : m .post (m .begin) 12648030 sample ≡ record { answer = 0; board = boardAt samplePlace 12648030 }
-  posted-as = posts-so (m .post-kept (m .begin) 12648030 sample) ∙ (ap (λ (b : Board). postOf b 12648030 sample) (begins-so (m .begin-kept)) ∙ sample-posted)
+one-told : {h : History} {time m n j k : ℕ} {buffer x y : List ℕ} → ListAnswered h time buffer m j x → ListAnswered h time buffer n k y
+    → _≡_ {A = Told} (record { answer = m; count = j; buffer = x }) (record { answer = n; count = k; buffer = y })
+one-told (outside o) (outside p) = refl
+one-told (outside o) (early r l) = absurd (o r)
+one-told (outside o) (short y i l) = absurd (o (y .ranged))
+one-told (outside o) (whole y i l) = absurd (o (y .ranged))
+one-told (early r l) (outside p) = absurd (p r)
+one-told (early r l) (early q k) = refl
+one-told (early r l) (short y i k) = absurd (omega (arith, l, y .no-earlier))
+one-told (early r l) (whole y i k) = absurd (omega (arith, l, y .no-earlier))
+one-told (short y i l) (outside p) = absurd (p (y .ranged))
+one-told (short y i l) (early r k) = absurd (omega (arith, k, y .no-earlier))
+one-told (short y i l) (short z j k) = refl
+one-told {h} {time} (short y i l) (whole z j k) =
+    absurd (omega (arith, l, k, ap (λ (v : List Place). length (listing time v)) (one-listing i j)))
+one-told (whole y i l) (outside p) = absurd (p (y .ranged))
+one-told (whole y i l) (early r k) = absurd (omega (arith, k, y .no-earlier))
+one-told {h} {time} (whole y i l) (short z j k) =
+    absurd (omega (arith, l, k, ap (λ (v : List Place). length (listing time v)) (one-listing i j)))
+one-told {h} {time} {buffer = buffer} (whole y i l) (whole z j k) =
+    ap (λ (v : List Place). record { answer = 0; count = length (listing time v); buffer = listing time v ++ drop (length (listing time v)) buffer }) (one-listing i j)
 
-  first-as : first m 12648030 sample ≡ boardAt samplePlace 12648030
-  first-as = ap (λ (p : Posted). p .board) posted-as
+-- what can happen with one board that meets demand 3 can happen with any other that does
+follows : {A B : History → Type 0} → Demand3 A → Demand3 B → (h : History) → A h → B h
+follows a b [] x = b .begins
+follows {A} {B} a b (posted clock r answer ∷ h) x =
+    let y = b .post-answered h (follows a b h (a .earlier (posted clock r answer) h x)) clock r in
+    let same : answer ≡ y .0 = a .turned-away h clock r answer x (y .0) .1 (b .turned-away h clock r (y .0) (y .1) (y .0) .0 refl) in
+    subst (λ (n : ℕ). B (posted clock r n ∷ h)) (sym same) (y .1)
+follows {A} {B} a b (listed time buffer answer count after ∷ h) x =
+    let y = b .listing-answered h (follows a b h (a .earlier (listed time buffer answer count after) h x)) time buffer in
+    let same = one-told (a .lists h time buffer answer count after x) (b .lists h time buffer (y .0) (y .1) (y .2) (y .3)) in
+    subst (λ (t : Told). B (listed time buffer (t .answer) (t .count) (t .buffer) ∷ h)) (sym same) (y .3)
 
-  cancelled-as : m .post (first m 12648030 sample) 12648180 cancelling ≡ record { answer = 0; board = boardAt cancelledPlace 12648180 }
-  cancelled-as =
-      posts-so (m .post-kept (first m 12648030 sample) 12648180 cancelling)
-      ∙ (ap (λ (b : Board). postOf b 12648180 cancelling) first-as ∙ sample-cancelled)
+-- The paper's cases as histories.
 
--- the place of the sample is none of an empty board's, and its mark shows
-place-at : List Place → Place
-place-at ps = getD ps 0 noPlace
+abbrev afterSample : History
+afterSample = posted 12648030 sample 0 ∷ []
 
--- The listing.
+abbrev afterCancellation : History
+afterCancellation = posted 12648180 cancelling 0 ∷ afterSample
 
-listing-length : (time : ℕ) (rows : List Place) → length (listing time rows) ≡ 5 + 17 * length rows
-listing-length time rows = omega (arith, length-append (timeRecord time) (records rows), time-length time, records-length rows)
+run-sample : Run afterSample (boardAt samplePlace 12648030)
+run-sample = then-posted (begun may-begin) (record { lent = tt; allowed = sym sample-posted })
 
-counted : {h : History} {time n count : ℕ} {buffer after : List ℕ} → ListAnswered h time buffer n count after → n ≡ 0 → (rows : List Place) → IsListing h time rows → count ≡ 5 + 17 * length rows
+run-cancellation : Run afterCancellation (boardAt cancelledPlace 12648180)
+run-cancellation = then-posted run-sample (record { lent = tt; allowed = sym sample-cancelled })
+
+-- the listings of 12,648,180, before the cancellation and after it
+abbrev withIt : List ℕ
+withIt = hex "01" ++ (hex "00C0FEF4" ++ sampleRecord)
+
+abbrev withoutIt : List ℕ
+withoutIt = (hex "01" ++ hex "00C0FEF4") ++ drop 5 (page 22)
+
+lists-it : Happens (listed 12648180 (page 22) 0 22 withIt ∷ afterSample)
+unfolding inPairs
+lists-it = record { board = boardAt samplePlace 12648030; run = then-listed run-sample (record { lent = ([], tt); place = (0, 0); name = 0; allowed = sym listed-meanwhile }) }
+
+lists-it-not : Happens (listed 12648180 (page 22) 0 5 withoutIt ∷ afterCancellation)
+unfolding inPairs
+lists-it-not = record { board = boardAt cancelledPlace 12648180; run = then-listed run-cancellation (record { lent = ([], tt); place = (0, 0); name = 0; allowed = sym listed-cancelled }) }
+
+-- the byte after the time is the sample's kind, or a byte that was not written
+two-listings : withIt ≡ withoutIt → ⊥
+unfolding inPairs
+two-listings e = absurd (omega (arith, ap (λ (x : List ℕ). getD x 5 0) e))
+
+counted : {h : History} {time n count : ℕ} {buffer after : List ℕ} → ListAnswered h time buffer n count after → n ≡ 0 → (rows : List Place) → IsListing h time rows → count ≡ length (listing time rows)
 counted (outside o) e rows i = absurd (omega (arith, e))
 counted (early x l) e rows i = absurd (omega (arith, e))
 counted (short y j l) e rows i = absurd (omega (arith, e))
-counted {h} {time} (whole {rows = xs} y j l) e rows i = ap (λ (v : List Place). length (listing time v)) (one-listing j i) ∙ listing-length time rows
+counted {h} {time} (whole y j l) e rows i = ap (λ (v : List Place). length (listing time v)) (one-listing j i)
 
 pub frauds-excluded : FraudsExcluded
-unfolding place-at
 frauds-excluded =
     record {
-      refuses-everything = λ m f. f sampleText (sample-as m .0);
-      one-fixed-record = λ m r f. two-records (sym (sample-as m .1) ∙ (f sampleText (sample-as m .0) ∙ (sym (f cancellationText (cancellation-as m .0)) ∙ cancellation-as m .1)));
-      refuses-every-post = λ m f. f 12648030 sample (ap (λ (p : Posted). p .answer) (posted-as m));
+      refuses-everything = λ Reads Writes m f. refuses-not m sampleText sample sample-read f;
+      one-fixed-record =
+          λ Reads Writes m r f.
+          two-records (fixed-so m sampleText sample sample-read r f ∙ sym (fixed-so m (laterSaying "QBBB NORTH SOUND FIR CNL SIGMET 1 180830/181230=") cancelling cancellation-read r f));
+      refuses-every-post = λ Can d f. f [] 12648030 sample (follows demand-3 d afterSample (record { board = boardAt samplePlace 12648030; run = run-sample }));
       does-nothing =
-          λ m f.
-          let same : boardAt samplePlace 12648030 .places ≡ m .begin .places = sym (ap (λ (b : Board). b .places) (first-as m)) ∙ f 12648030 sample in
-          let kind = ap (λ (ps : List Place). place-at ps .identity .kind) (same ∙ ap (λ (b : Board). b .places) (begins-so (m .begin-kept))) in
-          absurd (omega (arith, kind));
+          λ Can d f. absurd (omega (arith, f afterSample 12648180 (page 22) 22 withIt (follows demand-3 d (listed 12648180 (page 22) 0 22 withIt ∷ afterSample) lists-it)));
       obeys-the-first-only =
-          λ m f.
-          ⊎-elim
-          (λ (n : m .post (first m 12648030 sample) 12648180 cancelling .answer ≡ 0 → ⊥). n (ap (λ (p : Posted). p .answer) (cancelled-as m)))
-          (λ (same : m .post (first m 12648030 sample) 12648180 cancelling .board .places ≡ first m 12648030 sample .places).
-          let marks : boardAt cancelledPlace 12648180 .places ≡ boardAt samplePlace 12648030 .places =
-          sym (ap (λ (p : Posted). p .board .places) (cancelled-as m)) ∙ (same ∙ ap (λ (b : Board). b .places) (first-as m)) in
-          clash true refl (ap (λ (ps : List Place). place-at ps .marked) marks))
-          (f 12648030 sample (ap (λ (p : Posted). p .answer) (posted-as m)) 12648180 cancelling);
-      made-up-count = λ h time buffer count after hp rows i n. n (counted (lists h time buffer 0 count after hp) refl rows i);
+          λ Can d f.
+          two-listings (f 12648030 12648180 sample cancelling 0 12648180 (page 22) 22 5 withIt withoutIt
+          (follows demand-3 d (listed 12648180 (page 22) 0 22 withIt ∷ afterSample) lists-it)
+          (follows demand-3 d (listed 12648180 (page 22) 0 5 withoutIt ∷ afterCancellation) lists-it-not));
+      made-up-count = λ Can d h time buffer count after c. counted (d .lists h time buffer 0 count after c) refl;
+      no-other-board = λ Can d h. (follows d demand-3 h, follows demand-3 d h);
     }

@@ -11,9 +11,9 @@ use lib.ListN.{length, getD, set, length-set}
 use lib.Seq.{getD-set-same, getD-set-other}
 use borrow.Author.Tests.{leb-false, ltb-true, ltb-false, lt-leb, eqb-true, eqb-false, not-true}
 use Rattle.lists.specs.Choice.{both}
-use Rattle.lists.specs.ListAnswered.{indexOf, allOf}
+use Rattle.lists.specs.Lists.{indexOf, allOf}
 use Rattle.lists.proofs.Choice.{by, clash, both-left}
-use Rattle.lists.proofs.ListAnswered.{index-found, index-all, all-at}
+use Rattle.lists.proofs.Lists.{index-found, index-all, all-at}
 use Rattle.message.specs.declared.Record.{Record}
 use Rattle.places.specs.Places.{sameIdentity, noIdentity, noPlace, emptyPlace}
 use Rattle.board.specs.Boards.{distinct, goodBoard}

@@ -2,7 +2,7 @@
 -- Assumes nothing.
 use mathlib.Core.Bool.{true, false}
 use mathlib.Core.List.{List, [], _∷_, _++_, Pairwise, Pairwise·imp, List·Memᴰ, List·Nodup}
-use mathlib.Core.Logic.{_⊎_, inl, inr, _↔_}
+use mathlib.Core.Logic.{_↔_}
 use mathlib.Core.Path.{_≡_, refl, sym, ap, subst, _∙_}
 use Prim.Native.Nat.{ℕ, _≤_, _<_}
 use native.Mathlib.Omega.{arith}
@@ -18,17 +18,20 @@ use Rattle.places.specs.declared.Place.{Place}
 use Rattle.listing.specs.Order.{Precedes, Before}
 use Rattle.listing.specs.Rows.{rowsOf}
 use Rattle.listing.specs.Listings.{Told, listOf}
+use Rattle.listing.proofs.ListLaws.{count-most}
 use Rattle.listing.proofs.OrderLaws.{precedes-irreflexive}
-use Rattle.promises.specs.Calls.{History, MayBegin, MayPost, MayList, Run, Happens}
+use Rattle.promises.specs.Calls.{Call, History, MayBegin, MayPost, MayList, Run, Happens}
 use Rattle.promises.specs.Calls.Call.{posted, listed}
 use Rattle.promises.specs.Calls.Run.{begun, then-posted, then-listed}
 use Rattle.promises.specs.Accepted.{IsReport, Reported, Known, lastClock}
-use Rattle.promises.specs.Answers.{InRange, Timely, Concerns, Full, PostAnswered}
+use Rattle.promises.specs.Accepted.Known.{by-report, by-cancellation}
+use Rattle.promises.specs.Answers.Concerns.{reports, cancels}
+use Rattle.promises.specs.Answers.{Timely, Concerns, Full, PostAnswered}
 use Rattle.promises.specs.Answers.PostAnswered.{outside as by-range, early as by-clock, bad as by-record, test as by-test, no-start as by-start, no-end as by-end, no-target as by-target, ended as by-time, cancelled as by-mark, held as by-correction, again as by-target-marked, full as by-room, report-accepted, cancellation-accepted}
 use Rattle.promises.specs.InForce.{IsListing, listing, ListAnswered}
 use Rattle.promises.specs.InForce.ListAnswered.{outside, early, short, whole}
 use Rattle.promises.specs.Demand3.{Demand3}
-use Rattle.promises.proofs.Messages.{reportedPlace, markedPlace, cause-claim}
+use Rattle.promises.proofs.Messages.{reportedPlace, markedPlace, cause-claim, one-identity}
 use Rattle.promises.proofs.Messages.Cause.{report, cancellation}
 use Rattle.promises.proofs.Tracks.{Tracks, claims-report, tracked}
 use Rattle.promises.proofs.Room.{lasting-most}
@@ -138,8 +141,7 @@ lists h time buffer answer count after hp =
 module _ {h : History} {time : ℕ} {buffer : List ℕ} where
   exactly : {answer count : ℕ} {after : List ℕ} → ListAnswered h time buffer answer count after → Timely h time → (rows : List Place) → IsListing h time rows
       → length (listing time rows) ≤ length buffer → (answer ≡ 0) × (count ≡ length (listing time rows)) × (after ≡ listing time rows ++ drop (length (listing time rows)) buffer)
-  exactly (outside (inl l)) y rows i room = absurd (omega (arith, l, y .ranged .from))
-  exactly (outside (inr l)) y rows i room = absurd (omega (arith, l, y .ranged .until))
+  exactly (outside o) y rows i room = absurd (o (y .ranged))
   exactly (early x l) y rows i room = absurd (omega (arith, l, y .no-earlier))
   exactly (short {rows = xs} z j l) y rows i room =
       let same : length (listing time xs) ≡ length (listing time rows) = ap (λ (v : List Place). length (listing time v)) (one-listing j i) in
@@ -148,7 +150,38 @@ module _ {h : History} {time : ℕ} {buffer : List ℕ} where
       let same : xs ≡ rows = one-listing j i in
       (refl, ap (λ (v : List Place). length (listing time v)) same, ap (λ (v : List Place). listing time v ++ drop (length (listing time v)) buffer) same)
 
-pub demand-3 : Demand3
+earlier : (call : Call) (h : History) → Happens (call ∷ h) → Happens h
+earlier (posted clock r answer) h hp = let l = last-post (hp .run) in record { board = l .board; run = l .run }
+earlier (listed time buffer answer count after) h hp = let l = last-list (hp .run) in record { board = l .board; run = l .run }
+
+one-told : (h : History) (time : ℕ) (buffer : List ℕ) (m n j k : ℕ) (x y : List ℕ) → Happens (listed time buffer m j x ∷ h) → Happens (listed time buffer n k y ∷ h)
+    → (m ≡ n) × (j ≡ k) × (x ≡ y)
+one-told h time buffer m n j k x y p q =
+    let l = last-list (p .run) in
+    let o = last-list (q .run) in
+    let same : _≡_ {A = Told} (record { answer = m; count = j; buffer = x }) (record { answer = n; count = k; buffer = y }) =
+    l .says ∙ (ap (λ (b : Board). listOf b time buffer) (one-board (l .run) (o .run)) ∙ sym (o .says)) in
+    (ap (λ (u : Told). u .answer) same, ap (λ (u : Told). u .count) same, ap (λ (u : Told). u .buffer) same)
+
+at-most : (h : History) (time : ℕ) (buffer : List ℕ) (answer count : ℕ) (after : List ℕ) → Happens (listed time buffer answer count after ∷ h) → count ≤ 1093
+at-most h time buffer answer count after hp =
+    let l = last-list (hp .run) in
+    let same : count ≡ listOf (l .board) time buffer .count = ap (λ (u : Told). u .count) (l .says) in
+    omega (arith, same, count-most (l .board) time buffer)
+
+-- a message of a new identity is accepted where there is room
+new-accepted : {h : History} {clock : ℕ} {r : Record} {i : Identity} → Timely h clock → Concerns clock r i → clock < i .end → (Known i h → ⊥) → (Full h clock → ⊥) → PostAnswered h clock r 0
+new-accepted y (reports c m) l u n = report-accepted y m l (λ x. u (by-cancellation x)) (λ d x. absurd (u (by-report d x))) (λ f. absurd (n f))
+new-accepted y (cancels m) l u n = cancellation-accepted y m l (λ x. u (by-cancellation x)) (λ f. absurd (n f))
+
+room-again : (h : History) (clock : ℕ) (r : Record) (answer : ℕ) → Happens (posted clock r answer ∷ h) → Timely h clock → (i : Identity) → Concerns clock r i → clock < i .end
+    → (Known i h → ⊥) → ((answer ≡ 23) ↔ Full h clock) × ((answer ≡ 0) ↔ (Full h clock → ⊥))
+room-again h clock r answer hp y i c l u =
+    let exact = turned-away h clock r answer hp in
+    ((λ e. only-room (exact 23 .0 e) refl, λ f. exact 23 .1 (by-room y c l u f)),
+    (λ e f. absurd (omega (arith, e, exact 23 .1 (by-room y c l u f))), λ n. exact 0 .1 (new-accepted y c l u n)))
+
+pub demand-3 : Demand3 Happens
 demand-3 =
     record {
       begins = record { board = emptyBoard; run = begun may-begin };
@@ -159,28 +192,24 @@ demand-3 =
           λ h hp time buffer.
           let told : Told = listOf (hp .board) time buffer in
           (told .answer, told .count, told .buffer, record { board = hp .board; run = then-listed (hp .run) (may-list (hp .board) time buffer) });
+      earlier = earlier;
       one-answer = λ h clock r m n x y. sym (turned-away h clock r n y m .1 (turned-away h clock r m x m .0 refl));
-      one-telling =
-          λ h time buffer m n j k x y p q.
-          let l = last-list (p .run) in
-          let o = last-list (q .run) in
-          let same : _≡_ {A = Told} (record { answer = m; count = j; buffer = x }) (record { answer = n; count = k; buffer = y }) =
-          l .says ∙ (ap (λ (b : Board). listOf b time buffer) (one-board (l .run) (o .run)) ∙ sym (o .says)) in
-          (ap (λ (u : Told). u .answer) same, ap (λ (u : Told). u .count) same, ap (λ (u : Told). u .buffer) same);
+      one-listing = one-told;
       lists-exactly = λ h time buffer answer count after hp. exactly (lists h time buffer answer count after hp);
       lists = lists;
+      at-most-1093 = at-most;
       some-rows = λ h hp time l. (rowsOf time (hp .board .places), rows-listed (tracked (hp .run)) l);
       one-rows = λ h time xs ys. one-listing;
-      none-twice = λ h time rows i. Pairwise·imp {S = λ (p q : Place). p .identity ≡ q .identity → ⊥} (λ p q o e. precedes-irreflexive (subst (λ (x : Identity). Precedes x (q .identity)) e o)) (i .ordered);
+      none-twice =
+          λ h time rows i.
+          Pairwise·imp {S = λ (p q : Place). p .identity ≡ q .identity → ⊥} (λ p q o e. precedes-irreflexive (subst (λ (x : Identity). Precedes x (q .identity)) e o)) (i .ordered);
       never-more =
           λ h hp time l rows i.
           let t = tracked (hp .run) in
           subst (λ (xs : List Place). length xs ≤ 64) (one-listing (rows-listed t l) i) (listed-most t l);
       ever-later = λ h clock r hp i c m. later (turned-away h clock r 0 hp 0 .0 refl) refl i c m;
       turned-away = turned-away;
-      room-again =
-          λ h clock r answer hp y i c l u.
-          let exact = turned-away h clock r answer hp 23 in
-          (λ e. only-room (exact .0 e) refl, λ f. exact .1 (by-room y c l u f));
+      one-identity = λ clock r i j. one-identity;
+      room-again = room-again;
       room-enough = λ h hp clock l is n k e. lasting-most (tracked (hp .run)) l is n k e;
     }

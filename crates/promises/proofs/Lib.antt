@@ -5,7 +5,7 @@ pub mod Tracks
 pub mod Room
 pub mod Answering
 pub mod Listing
-pub mod Starring
 pub mod Histories
 pub mod Contracts
+pub mod Starring
 pub mod Fraud

@@ -1,6 +1,6 @@
 -- What a message asks of a board, in the paper's words: the causes that no board can change, and what is left to it.
 -- Assumes nothing.
-use mathlib.Core.Bool.{true, false, not}
+use mathlib.Core.Bool.{Bool, true, false, not}
 use mathlib.Core.Path.{_≡_, refl, sym, ap, subst, _∙_}
 use Prim.Native.Nat.{ℕ, _≤_, _<_}
 use native.Mathlib.Omega.{arith}
@@ -17,7 +17,7 @@ use Rattle.message.proofs.Goodness.{good-parts}
 use Rattle.calendar.specs.Gregorian.{never}
 use Rattle.calendar.specs.Instants.{startOf, endOf, targetOf}
 use Rattle.calendar.specs.Declared.{IsStart, IsEnd, IsTarget}
-use Rattle.calendar.proofs.CalendarLaws.{start-found, start-bound, start-complete, start-none, end-found, end-bound, end-complete, end-none, target-found, target-bound, target-complete, target-none}
+use Rattle.calendar.proofs.CalendarLaws.{start-found, start-bound, start-complete, start-only, start-none, end-found, end-bound, end-complete, end-none, target-found, target-bound, target-complete, target-none}
 use Rattle.places.specs.Padded.{paddedOf}
 use Rattle.places.specs.Places.{noPlace}
 use Rattle.places.specs.Claims.{unclaimed, identityOf, reportPlace, targetPlace, ending, cancels as cancelsOf, timed, isTest, startAt, endAt, claimOf}
@@ -216,3 +216,53 @@ module _ {clock : ℕ} {r : Record} where
   cause-claim (ended (cancels m) l) = cancellation-claim m ∙ sym (board-ended clock _ (markedPlace _) l refl)
   cause-claim (report {i} {c} m l) = report-claim m ∙ sym (unended clock (i .end) (reportedPlace i c) l)
   cause-claim (cancellation {i} m l) = cancellation-claim m ∙ sym (unended clock (i .end) (markedPlace i) l)
+
+-- A message concerns one identity.
+
+isReported : Form → Bool
+isReported NoForm = false
+isReported (Test n) = false
+isReported (Cancellation s from) = false
+isReported Reported = true
+
+named : Form → Sequence
+named NoForm = record { letter = 0; digits = 0; number = 0 }
+named (Test n) = record { letter = 0; digits = 0; number = 0 }
+named (Cancellation s from) = s
+named Reported = record { letter = 0; digits = 0; number = 0 }
+
+begun : Form → Group
+begun NoForm = record { day = 0; hour = 0; minute = 0 }
+begun (Test n) = record { day = 0; hour = 0; minute = 0 }
+begun (Cancellation s from) = from
+begun Reported = record { day = 0; hour = 0; minute = 0 }
+
+module _ {clock : ℕ} {r : Record} {i j : Identity} where
+  no-both : {c : ℕ} → IsReport clock r i c → IsCancellation clock r j → ⊥
+  unfolding isReported
+  no-both m n = clash (isReported (r .form)) (rw (m .form)) (rw (n .form))
+
+  one-report : {c d : ℕ} → IsReport clock r i c → IsReport clock r j d → i ≡ j
+  one-report m n =
+      let s : i .start ≡ j .start = start-only (m .start) (n .start) in
+      let e : i .end ≡ j .end = sym (end-complete (m .end)) ∙ (ap (λ (t : ℕ). endOf (r .heading .designator .kind) t (r .line .valid .to)) s ∙ end-complete (n .end)) in
+      sym (identity-is r (r .line .sequence) i (m .kind) (m .area) (m .sequence) s e) ∙ identity-is r (r .line .sequence) j (n .kind) (n .area) (n .sequence) refl refl
+
+  one-target : IsCancellation clock r i → IsCancellation clock r j → i ≡ j
+  unfolding named begun
+  one-target m n =
+      let kind : ℕ = r .heading .designator .kind in
+      let form : Cancellation (m .named) (m .from) ≡ Cancellation (n .named) (n .from) = sym (m .form) ∙ n .form in
+      let same : m .named ≡ n .named = ap named form in
+      let o : m .own ≡ n .own = start-only (m .own-start) (n .own-start) in
+      let e : i .end ≡ j .end = sym (end-complete (m .end)) ∙ (ap (λ (t : ℕ). endOf kind t (r .line .valid .to)) o ∙ end-complete (n .end)) in
+      let s : i .start ≡ j .start =
+      sym (target-complete (m .start)) ∙ (ap (λ (t : ℕ). targetOf kind t (m .from)) e ∙ (ap (λ (g : Group). targetOf kind (j .end) g) (ap begun form) ∙ target-complete (n .start))) in
+      sym (identity-is r (m .named) i (m .kind) (m .area) (m .sequence) s e)
+      ∙ (ap (λ (x : Sequence). identityOf r x (j .start) (j .end)) same ∙ identity-is r (n .named) j (n .kind) (n .area) (n .sequence) refl refl)
+
+pub one-identity : {clock : ℕ} {r : Record} {i j : Identity} → Concerns clock r i → Concerns clock r j → i ≡ j
+one-identity (reports c m) (reports d n) = one-report m n
+one-identity (reports c m) (cancels n) = absurd (no-both m n)
+one-identity (cancels m) (reports d n) = absurd (no-both n m)
+one-identity (cancels m) (cancels n) = one-target m n

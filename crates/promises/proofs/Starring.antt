@@ -6,7 +6,7 @@ use mathlib.Core.Path.{_≡_, refl, ap, _∙_}
 use Prim.Native.Nat.{ℕ}
 use lib.ListN.{replicate}
 use Rattle.lists.specs.Base.{worthAfter, places}
-use Rattle.lists.specs.ListAnswered.{indexOf, allOf, same}
+use Rattle.lists.specs.Lists.{indexOf, allOf, same}
 use Rattle.coordinates.specs.Coordinates.{goodCoordinate, emptyCoordinate}
 use Rattle.coordinates.specs.Points.{emptyPoint}
 use Rattle.figures.specs.Figures.{figuresOf}
@@ -25,7 +25,7 @@ use Rattle.message.specs.Reports.{emptyVolcano, goodPhenomenon, goodObservation
 use Rattle.message.specs.Sample.{sample}
 use Rattle.message.specs.declared.Record.{Record}
 use Rattle.cases.specs.Cases.{cancelling}
-use Rattle.calendar.specs.Gregorian.{monthLength, dayFrom, dayOfMonth}
+use Rattle.calendar.specs.Gregorian.{firstDay, monthLength, dayFrom, dayOfMonth}
 use Rattle.calendar.specs.Instants.{matches, onDay, instantIn, startOf, endOf, targetOf}
 use Rattle.places.specs.Padded.{padded, unpadded, heldSequence}
 use Rattle.places.specs.Places.{sameIdentity, noPlace, emptyPlace, heldIdentity, heldCorrection, heldPlace, goodPlace}
@@ -39,8 +39,9 @@ use Rattle.places.specs.declared.Identity.{Identity}
 use Rattle.places.specs.declared.Place.{Place}
 use Rattle.calendar.proofs.CalendarLaws.{case-leap-year, case-at-the-clock, case-at-the-limit}
 use Rattle.coordinates.proofs.Cases.{n00, s0000, s90, n9001}
-use Rattle.cases.proofs.Readings.{sample-read, sample-E180, sample-E181, sample-FCST, sample-NC, sample-open}
-use Rattle.promises.specs.Starred.{hex, inPairs, onTheTwentyNinth, withSample, withCancellation, page, Starred}
+use Rattle.cases.proofs.Readings.{sample-read, sample-E180, sample-E181, sample-N9001, sample-FCST, sample-NC, sample-open, cancellation-read}
+use Rattle.message.proofs.Samples.{sample-length, sample-text}
+use Rattle.promises.specs.Starred.{hex, inPairs, minuteOf, onTheTwentyNinth, withSample, withCancellation, page, Starred}
 
 -- what a post comes to, with every definition open: a theorem that unfolds this one computes
 opened : Record → Record
@@ -82,7 +83,7 @@ unfolding opened
 twenty-ninth = refl
 
 -- the sample's record in a listing
-abbrev sampleRecord : List ℕ
+abbrev pub sampleRecord : List ℕ
 sampleRecord = hex "02" ++ (hex "51424242" ++ (hex "312020" ++ (hex "20" ++ (hex "00C0FE5E" ++ hex "00C0FF4E"))))
 
 listed-then : listOf (boardAt samplePlace 12648030) 12648030 (page 22) ≡ tells (hex "01" ++ (hex "00C0FE5E" ++ sampleRecord)) (page 22)
@@ -97,9 +98,27 @@ listed-over : listOf (boardAt samplePlace 12648030) 12648270 (page 22) ≡ tells
 unfolding opened listOf listingOf rowsOf selected inForce sortedAfter inserted records messageRecord timeRecord inPairs
 listed-over = refl
 
-listed-cancelled : listOf (boardAt cancelledPlace 12648180) 12648180 (page 22) ≡ tells (hex "01" ++ hex "00C0FEF4") (page 22)
+pub listed-cancelled : listOf (boardAt cancelledPlace 12648180) 12648180 (page 22) ≡ tells (hex "01" ++ hex "00C0FEF4") (page 22)
 unfolding opened listOf listingOf rowsOf selected inForce sortedAfter inserted records messageRecord timeRecord inPairs
 listed-cancelled = refl
+
+-- the same at the minute of the cancellation, before it
+pub listed-meanwhile : listOf (boardAt samplePlace 12648030) 12648180 (page 22) ≡ tells (hex "01" ++ (hex "00C0FEF4" ++ sampleRecord)) (page 22)
+unfolding opened listOf listingOf rowsOf selected inForce sortedAfter inserted records messageRecord timeRecord inPairs
+listed-meanwhile = refl
+
+-- dates
+the-18th : minuteOf 2024 1 18 8 30 ≡ 12648030
+unfolding firstDay monthLength
+the-18th = refl
+
+the-29th : minuteOf 2024 2 29 23 0 ≡ 12709380
+unfolding firstDay monthLength
+the-29th = refl
+
+the-28th : minuteOf 2023 2 28 23 0 ≡ 12182340
+unfolding firstDay monthLength
+the-28th = refl
 
 -- the boards of the cases are these two
 with-sample : withSample ≡ boardAt samplePlace 12648030
@@ -111,24 +130,31 @@ with-cancellation = ap (λ (b : Board). postOf b 12648180 cancelling .board) wit
 pub starred : Starred
 starred =
     record {
+      sample-length = sample-length;
       sample-read = sample-read;
+      sample-written = sample-text;
       east-180 = sample-E180;
       east-181 = sample-E181;
       forecast-for-intensity = sample-FCST;
       intensity-twice = sample-NC;
       no-sign = sample-open;
-      north-0 = n00 .value;
-      south-0 = s0000 .value;
-      south-90 = s90 .value;
+      north-0 = record { good = n00 .good; value = n00 .value };
+      south-0 = record { good = s0000 .good; value = s0000 .value };
+      south-90 = record { good = s90 .good; value = s90 .value };
       north-90-01 = n9001;
+      north-90-01-read = sample-N9001;
+      the-18th = the-18th;
       start = case-at-the-clock;
       end = case-at-the-limit;
       posted = ap (λ x. x .answer) sample-posted;
       listed = ap (λ (b : Board). listOf b 12648030 (page 22)) with-sample ∙ listed-then;
       last-minute = ap (λ (b : Board). listOf b 12648269 (page 22)) with-sample ∙ listed-late;
       over = ap (λ (b : Board). listOf b 12648270 (page 22)) with-sample ∙ listed-over;
+      the-29th = the-29th;
       leap-year = case-leap-year;
+      the-28th = the-28th;
       common-year = twenty-ninth;
+      cancellation-read = cancellation-read;
       cancelled = ap (λ (b : Board). postOf b 12648180 cancelling .answer) with-sample ∙ ap (λ x. x .answer) sample-cancelled;
       off-the-list = ap (λ (b : Board). listOf b 12648180 (page 22)) with-cancellation ∙ listed-cancelled;
       late-copy = ap (λ (b : Board). postOf b 12648181 sample .answer) with-cancellation ∙ sample-again;

@@ -10,9 +10,9 @@ use lib.Dec.{leb, ltb, eqb}
 use lib.ListN.{length, getD}
 use borrow.Author.Tests.{leb-true, leb-false, ltb-false, eqb-true, eqb-false, eq-eqb, ne-eqb}
 use Rattle.lists.specs.Choice.{both}
-use Rattle.lists.specs.ListAnswered.{allOf}
+use Rattle.lists.specs.Lists.{allOf}
 use Rattle.lists.proofs.Choice.{by, clash}
-use Rattle.lists.proofs.ListAnswered.{all-at}
+use Rattle.lists.proofs.Lists.{all-at}
 use Rattle.message.specs.declared.Record.{Record}
 use Rattle.places.specs.Places.{sameIdentity, noPlace, emptyPlace}
 use Rattle.board.specs.Boards.{inRange, goodBoard, emptyBoard, refusalAt}

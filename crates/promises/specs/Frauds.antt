@@ -17,11 +17,10 @@ use Rattle.promises.specs.InForce.{IsListing, listing}
 use Rattle.promises.specs.Demand2.{Demand2}
 use Rattle.promises.specs.Demand3.{Demand3}
 
--- A reader that replies to everything and meets demand 2, with some writer
-pub record MeetsDemand2 (Reads : List ℕ → Reply → Type 0) : Type 0 where
+-- A reader that replies to everything and meets demand 2, with some writer.
+pub record MeetsDemand2 (Reads : List ℕ → Reply → Type 0) (Writes : Record → List ℕ → Written → List ℕ → Type 0) : Type 0 where
   pub replies : (bulletin : List ℕ) → (p : Reply) × Reads bulletin p
-  pub writer : Record → List ℕ → Written → List ℕ → Type 0
-  pub demand : Demand2 Reads writer
+  pub demand : Demand2 Reads Writes
 
 -- every reply has a number
 abbrev pub RefusesEverything : (List ℕ → Reply → Type 0) → Type 0
@@ -46,10 +45,12 @@ ObeysTheFirstOnly Can =
     → Can (listed time buffer 0 j x ∷ (posted clock r 0 ∷ []))
     → Can (listed time buffer 0 k y ∷ (posted then s answer ∷ (posted clock r 0 ∷ []))) → x ≡ y
 
-pub record FraudsExcluded : Type 0 where
+pub record FraudsExcluded : Type 1 where
   -- "A reader that refuses everything, or replies with one fixed record, breaks demand 2."
-  pub refuses-everything : (Reads : List ℕ → Reply → Type 0) → MeetsDemand2 Reads → RefusesEverything Reads → ⊥
-  pub one-fixed-record : (Reads : List ℕ → Reply → Type 0) → MeetsDemand2 Reads → (r : Record) → OneFixedRecord Reads r → ⊥
+  pub refuses-everything : (Reads : List ℕ → Reply → Type 0) (Writes : Record → List ℕ → Written → List ℕ → Type 0)
+      → MeetsDemand2 Reads Writes → RefusesEverything Reads → ⊥
+  pub one-fixed-record : (Reads : List ℕ → Reply → Type 0) (Writes : Record → List ℕ → Written → List ℕ → Type 0)
+      → MeetsDemand2 Reads Writes → (r : Record) → OneFixedRecord Reads r → ⊥
 
   -- "A board that refuses every post, does nothing, or obeys its first post and afterwards only reports success or refuses, breaks demand 3."
   pub refuses-every-post : (Can : History → Type 0) → Demand3 Can → RefusesEveryPost Can → ⊥

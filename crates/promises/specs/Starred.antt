@@ -7,15 +7,17 @@ use Prim.Native.Char.{code}
 use Prim.Native.Nat.{ℕ, _+_, _-_, _*_}
 use Prim.Native.String.{String}
 use lib.Dec.{leb}
-use lib.IntN.{pos, negℤ}
+use lib.IntN.{ℤ, pos, negℤ}
 use lib.ListN.{length, replicate}
 use Rattle.lists.specs.Choice.{pick}
 use Rattle.lists.specs.Text.{bytes}
-use Rattle.coordinates.specs.Coordinates.{northSouth, coordinateOf, noCoordinate, signedOf}
+use Rattle.coordinates.specs.Coordinates.{northSouth, coordinateOf, goodCoordinate, noCoordinate, signedOf}
 use Rattle.message.specs.Sample.{dayAndTime, sample, sampleText}
+use Rattle.message.specs.Words.{textOf}
 use Rattle.message.specs.declared.Record.{Record}
 use Rattle.grammar.specs.Reads.{acceptance, refusal, readOf}
-use Rattle.cases.specs.Cases.{reporting, eastOf, E180, cancelling}
+use Rattle.cases.specs.Cases.{reporting, laterSaying, eastOf, E180, cancelling}
+use Rattle.calendar.specs.Gregorian.{firstDay}
 use Rattle.calendar.specs.Instants.{startOf, endOf}
 use Rattle.board.specs.Boards.{emptyBoard}
 use Rattle.board.specs.Posts.{postOf}
@@ -34,6 +36,15 @@ inPairs (a ∷ b ∷ rest) = (nibble a * 16 + nibble b) ∷ inPairs rest
 abbrev pub hex : String → List ℕ
 hex s = inPairs (bytes s)
 
+-- a date and time in minutes from 2000-01-01 0000Z
+abbrev pub minuteOf : ℕ → ℕ → ℕ → ℕ → ℕ → ℕ
+minuteOf year month day hour minute = (firstDay ((year - 2000) * 12 + (month - 1)) + (day - 1)) * 1440 + (hour * 60 + minute)
+
+-- the word is a latitude, and has this signed value
+pub record Valued (word : String) (minutes : ℤ) : Type 0 where
+  pub good : goodCoordinate northSouth (coordinateOf northSouth (bytes word)) ≡ true
+  pub value : signedOf (coordinateOf northSouth (bytes word)) ≡ minutes
+
 -- the sample with VALID 290100/290500
 abbrev pub onTheTwentyNinth : Record
 onTheTwentyNinth =
@@ -51,7 +62,7 @@ onTheTwentyNinth =
       report = sample .report;
     }
 
--- "Sample posted then"; and then the cancellation: "Sequence 2, VALID 181100/181230, `CNL SIGMET 1 180830/181230`, posted at 12,648,180"
+-- "Sample posted then"; and then the cancellation, "posted at 12,648,180"
 abbrev pub withSample : Board
 withSample = postOf emptyBoard 12648030 sample .board
 
@@ -63,8 +74,10 @@ abbrev pub page : ℕ → List ℕ
 page size = replicate size 0
 
 pub record Starred : Type 0 where
-  -- the sample itself, "Output: `0 0`, LF, these 130 bytes, LF"
+  -- "Sample, 130 bytes": read as its record, whose canonical text it is
+  pub sample-length : length sampleText ≡ 130
   pub sample-read : readOf sampleText ≡ acceptance sample
+  pub sample-written : textOf sample ≡ sampleText
 
   -- "`E180` for E114: read. `E181`: 9 at 100."
   pub east-180 : readOf (reporting "E OF E180 SFC/FL100 MOV E 20KT WKN=") ≡ acceptance (eastOf E180)
@@ -76,12 +89,14 @@ pub record Starred : Type 0 where
   pub no-sign : readOf (reporting "E OF E114 SFC/FL100 MOV E 20KT WKN") ≡ refusal 3 129
 
   -- "N00 and S0000 both have value 0. S90 is -5,400; N9001 is refused."
-  pub north-0 : signedOf (coordinateOf northSouth (bytes "N00")) ≡ pos 0
-  pub south-0 : signedOf (coordinateOf northSouth (bytes "S0000")) ≡ pos 0
-  pub south-90 : signedOf (coordinateOf northSouth (bytes "S90")) ≡ negℤ (pos 5400)
+  pub north-0 : Valued "N00" (pos 0)
+  pub south-0 : Valued "S0000" (pos 0)
+  pub south-90 : Valued "S90" (negℤ (pos 5400))
   pub north-90-01 : coordinateOf northSouth (bytes "N9001") ≡ noCoordinate
+  pub north-90-01-read : readOf (reporting "N OF N9001 SFC/FL100 MOV E 20KT WKN=") ≡ refusal 9 100
 
-  -- "Clock 12,648,030 (2024-01-18 0830Z): start 12,648,030, end 12,648,270."
+  -- "Clock 12,648,030 (2024-01-18 0830Z): start 12,648,030, end 12,648,270."; the sample is a WS, kind 2
+  pub the-18th : minuteOf 2024 1 18 8 30 ≡ 12648030
   pub start : startOf 12648030 (dayAndTime 18 8 30) ≡ 12648030
   pub end : endOf 2 12648030 (dayAndTime 18 12 30) ≡ 12648270
 
@@ -96,10 +111,13 @@ pub record Starred : Type 0 where
   pub over : listOf withSample 12648270 (page 22) ≡ tells (hex "01" ++ hex "00C0FF4E") (page 22)
 
   -- "Clock 12,709,380 (2024-02-29 2300Z), start 010100 is 12,709,500. Clock 2023-02-28 2300Z, start 290100: 18."
+  pub the-29th : minuteOf 2024 2 29 23 0 ≡ 12709380
   pub leap-year : startOf 12709380 (dayAndTime 1 1 0) ≡ 12709500
+  pub the-28th : minuteOf 2023 2 28 23 0 ≡ 12182340
   pub common-year : postOf emptyBoard 12182340 onTheTwentyNinth .answer ≡ 18
 
-  -- "…, posted at 12,648,180: the sample is off the list; at 12,648,181 the sample posted again gets 22, the cancellation posted again 21."
+  -- "Sequence 2, VALID 181100/181230, `CNL SIGMET 1 180830/181230`, posted at 12,648,180: the sample is off the list; at 12,648,181 the sample posted again gets 22, the cancellation posted again 21."
+  pub cancellation-read : readOf (laterSaying "QBBB NORTH SOUND FIR CNL SIGMET 1 180830/181230=") ≡ acceptance cancelling
   pub cancelled : postOf withSample 12648180 cancelling .answer ≡ 0
   pub off-the-list : listOf withCancellation 12648180 (page 22) ≡ tells (hex "01" ++ hex "00C0FEF4") (page 22)
   pub late-copy : postOf withCancellation 12648181 sample .answer ≡ 22
