@@ -9,3 +9,4 @@ pub mod Histories
 pub mod Contracts
 pub mod Starring
 pub mod Fraud
+pub mod Table
