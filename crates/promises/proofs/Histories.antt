@@ -177,9 +177,10 @@ new-accepted y (cancels m) l u n = cancellation-accepted y m l (λ x. u (by-canc
 room-again : (h : History) (clock : ℕ) (r : Record) (answer : ℕ) → Happens (posted clock r answer ∷ h) → Timely h clock → (i : Identity) → Concerns clock r i → clock < i .end
     → (Known i h → ⊥) → ((answer ≡ 23) ↔ Full h clock) × ((answer ≡ 0) ↔ (Full h clock → ⊥))
 room-again h clock r answer hp y i c l u =
-    let exact = turned-away h clock r answer hp in
-    ((λ e. only-room (exact 23 .0 e) refl, λ f. exact 23 .1 (by-room y c l u f)),
-    (λ e f. absurd (omega (arith, e, exact 23 .1 (by-room y c l u f))), λ n. exact 0 .1 (new-accepted y c l u n)))
+    let exact = turned-away h clock r answer hp in (
+      (λ e. only-room (exact 23 .0 e) refl, λ f. exact 23 .1 (by-room y c l u f)),
+      (λ e f. absurd (omega (arith, e, exact 23 .1 (by-room y c l u f))), λ n. exact 0 .1 (new-accepted y c l u n)),
+    )
 
 pub demand-3 : Demand3 Happens
 demand-3 =

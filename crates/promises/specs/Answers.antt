@@ -50,33 +50,26 @@ pub data PostAnswered (h : History) (clock : ℕ) (r : Record) : ℕ → Type 0 
   -- "16 clock outside its range; 17 clock before the board's"
   outside : (InRange clock → ⊥) → PostAnswered h clock r 16
   early : InRange clock → clock < lastClock h → PostAnswered h clock r 17
-
   -- "13; 15 a test; 18 no start"
   bad : Timely h clock → good r ≡ false → PostAnswered h clock r 13
   test : {n : ℕ} → Timely h clock → good r ≡ true → r .form ≡ Test n → PostAnswered h clock r 15
   no-start : Timely h clock → NoTest r → ((t : ℕ) → IsStart clock (r .line .valid .from) t → ⊥) → PostAnswered h clock r 18
-
   -- "19 no end, or no start of a target"
   no-end : {start : ℕ} → Timely h clock → NoTest r → IsStart clock (r .line .valid .from) start
       → ((t : ℕ) → IsEnd (r .heading .designator .kind) start (r .line .valid .to) t → ⊥) → PostAnswered h clock r 19
   no-target : {named : Sequence} {from : Group} {start end : ℕ} → Timely h clock → good r ≡ true → r .form ≡ Cancellation named from
       → IsStart clock (r .line .valid .from) start → IsEnd (r .heading .designator .kind) start (r .line .valid .to) end
       → ((t : ℕ) → IsTarget (r .heading .designator .kind) end from t → ⊥) → PostAnswered h clock r 19
-
   -- "20 end at or before the clock"
   ended : {i : Identity} → Timely h clock → Concerns clock r i → i .end ≤ clock → PostAnswered h clock r 20
-
   -- "22 a report whose identity is marked"
   cancelled : {i : Identity} {c : ℕ} → Timely h clock → IsReport clock r i c → clock < i .end → Cancelled i h → PostAnswered h clock r 22
-
   -- "21 a report held with the same or a later correction, or a cancellation whose target is marked"
   held : {i : Identity} {c d : ℕ} → Timely h clock → IsReport clock r i c → clock < i .end → (Cancelled i h → ⊥)
       → Reported i d h → c ≤ d → PostAnswered h clock r 21
   again : {i : Identity} → Timely h clock → IsCancellation clock r i → clock < i .end → Cancelled i h → PostAnswered h clock r 21
-
   -- "23 a new place needed and all 64 in use after the dropping"
   full : {i : Identity} → Timely h clock → Concerns clock r i → clock < i .end → (Known i h → ⊥) → Full h clock → PostAnswered h clock r 23
-
   -- accepted: a report of an identity that no accepted cancellation names, with a later correction than every one accepted; a cancellation
   -- whose target no accepted one names; and room, or a place that the identity has
   report-accepted : {i : Identity} {c : ℕ} → Timely h clock → IsReport clock r i c → clock < i .end → (Cancelled i h → ⊥)

@@ -29,18 +29,14 @@ pub record Demand2 (Reads : List ℕ → Reply → Type 0) (Writes : Record → 
   -- "The reader takes exactly the message forms of the paper, …
   pub takes-only : (bulletin : List ℕ) (p : Reply) → Reads bulletin p → p .number ≡ 0 → Says bulletin (p .message)
   pub takes-all : (bulletin : List ℕ) (p : Reply) → Reads bulletin p → (r : Record) → Says bulletin r → p ≡ acceptance r
-
   -- … each with one meaning"
   pub one-meaning : (q r : Record) → good q ≡ true → good r ≡ true → wordsOf q ≡ wordsOf r → q ≡ r
-
   -- "Writing a good record and reading it gives that record"
   pub written-then-read : (r : Record) (buffer after : List ℕ) (w : Written) (p : Reply) → good r ≡ true → length (textOf r) ≤ length buffer
       → Writes r buffer w after → Reads (take (w .count) after) p → (w .number ≡ 0) × (p ≡ acceptance r)
-
   -- "reading a canonical text and writing it gives the same bytes"
   pub read-then-written : (t buffer after : List ℕ) (p : Reply) (w : Written) → Canonical t → Reads t p → p .number ≡ 0 → length t ≤ length buffer
       → Writes (p .message) buffer w after → (w .number ≡ 0) × (w .count ≡ length t) × (after ≡ t ++ drop (length t) buffer)
-
   -- what is written is canonical, so that every bulletin that is read has a canonical text, and one only
   pub written-canonical : (r : Record) (buffer after : List ℕ) (w : Written) → Writes r buffer w after → w .number ≡ 0 → Canonical (take (w .count) after)
   pub one-canonical : (s t : List ℕ) (p : Reply) → Canonical s → Canonical t → Reads s p → Reads t p → p .number ≡ 0 → s ≡ t

@@ -51,15 +51,12 @@ pub record FraudsExcluded : Type 1 where
       → MeetsDemand2 Reads Writes → RefusesEverything Reads → ⊥
   pub one-fixed-record : (Reads : List ℕ → Reply → Type 0) (Writes : Record → List ℕ → Written → List ℕ → Type 0)
       → MeetsDemand2 Reads Writes → (r : Record) → OneFixedRecord Reads r → ⊥
-
   -- "A board that refuses every post, does nothing, or obeys its first post and afterwards only reports success or refuses, breaks demand 3."
   pub refuses-every-post : (Can : History → Type 0) → Demand3 Can → RefusesEveryPost Can → ⊥
   pub does-nothing : (Can : History → Type 0) → Demand3 Can → DoesNothing Can → ⊥
   pub obeys-the-first-only : (Can : History → Type 0) → Demand3 Can → ObeysTheFirstOnly Can → ⊥
-
   -- "A made-up listing count breaks demand 3 as well, since the count is the length of the listing so defined."
   pub made-up-count : (Can : History → Type 0) → Demand3 Can → (h : History) (time : ℕ) (buffer : List ℕ) (count : ℕ) (after : List ℕ)
       → Can (listed time buffer 0 count after ∷ h) → (rows : List Place) → IsListing h time rows → count ≡ length (listing time rows)
-
   -- and there is no other fraud: a board that meets demand 3 gives every answer that ours gives, and no other
   pub no-other-board : (Can : History → Type 0) → Demand3 Can → (h : History) → Can h ↔ Happens h

@@ -165,11 +165,9 @@ pub record Functions : Type 0 where
   -- lists
   pub lists-both : Determines 0 lists-both-kinds.ps lists-both-kinds.r lists-both-reads.Learnt
   pub lists-either : Determines 0 lists-either-kinds.ps lists-either-kinds.r lists-either-reads.Learnt
-
   -- words
   pub words-check : Determines 1 words-check-kinds.ps words-check-kinds.r words-check-reads.Learnt
   pub words-word-at : Determines 1 words-word-at-kinds.ps words-word-at-kinds.r words-word-at-reads.Learnt
-
   -- figures
   pub figures-is-letter : Determines 0 figures-is-letter-kinds.ps figures-is-letter-kinds.r figures-is-letter-reads.Learnt
   pub figures-is-digit : Determines 0 figures-is-digit-kinds.ps figures-is-digit-kinds.r figures-is-digit-reads.Learnt
@@ -179,7 +177,6 @@ pub record Functions : Type 0 where
   pub figures-three : Determines 1 figures-three-kinds.ps figures-three-kinds.r figures-three-reads.Learnt
   pub figures-code : Determines 1 figures-code-kinds.ps figures-code-kinds.r figures-code-reads.Learnt
   pub figures-find : Determines 1 figures-find-kinds.ps figures-find-kinds.r figures-find-reads.Learnt
-
   -- coordinates
   pub coordinates-latitude : Determines 1 coordinates-latitude-kinds.ps coordinates-latitude-kinds.r coordinates-latitude-reads.Learnt
   pub coordinates-longitude : Determines 1 coordinates-longitude-kinds.ps coordinates-longitude-kinds.r coordinates-longitude-reads.Learnt
@@ -191,7 +188,6 @@ pub record Functions : Type 0 where
   pub coordinates-good-point : Determines 0 coordinates-good-point-kinds.ps coordinates-good-point-kinds.r coordinates-good-point-reads.Learnt
   pub coordinates-empty-point : Determines 0 coordinates-empty-point-kinds.ps coordinates-empty-point-kinds.r coordinates-empty-point-reads.Learnt
   pub coordinates-same-latitude : Determines 0 coordinates-same-latitude-kinds.ps coordinates-same-latitude-kinds.r coordinates-same-latitude-reads.Learnt
-
   -- groups
   pub groups-good-group : Determines 0 groups-good-group-kinds.ps groups-good-group-kinds.r groups-good-group-reads.Learnt
   pub groups-same-group : Determines 0 groups-same-group-kinds.ps groups-same-group-kinds.r groups-same-group-reads.Learnt
@@ -200,7 +196,6 @@ pub record Functions : Type 0 where
   pub groups-period-word : Determines 1 groups-period-word-kinds.ps groups-period-word-kinds.r groups-period-word-reads.Learnt
   pub groups-good-time : Determines 0 groups-good-time-kinds.ps groups-good-time-kinds.r groups-good-time-reads.Learnt
   pub groups-time-word : Determines 1 groups-time-word-kinds.ps groups-time-word-kinds.r groups-time-word-reads.Learnt
-
   -- headings
   pub headings-two-letters : Determines 0 headings-two-letters-kinds.ps headings-two-letters-kinds.r headings-two-letters-reads.Learnt
   pub headings-four-letters : Determines 0 headings-four-letters-kinds.ps headings-four-letters-kinds.r headings-four-letters-reads.Learnt
@@ -211,27 +206,22 @@ pub record Functions : Type 0 where
   pub headings-office-word : Determines 1 headings-office-word-kinds.ps headings-office-word-kinds.r headings-office-word-reads.Learnt
   pub headings-good-sequence : Determines 0 headings-good-sequence-kinds.ps headings-good-sequence-kinds.r headings-good-sequence-reads.Learnt
   pub headings-sequence-word : Determines 1 headings-sequence-word-kinds.ps headings-sequence-word-kinds.r headings-sequence-word-reads.Learnt
-
   -- keywords
   pub keywords-keyword : Determines 1 keywords-keyword-kinds.ps keywords-keyword-kinds.r keywords-keyword-reads.Learnt
-
   -- names
   pub names-name-word : Determines 1 names-name-word-kinds.ps names-name-word-kinds.r names-name-word-reads.Learnt
   pub names-closing-word : Determines 1 names-closing-word-kinds.ps names-closing-word-kinds.r names-closing-word-reads.Learnt
   pub names-in-name : Determines 1 names-in-name-kinds.ps names-in-name-kinds.r names-in-name-reads.Learnt
   pub names-name-text : Determines 1 names-name-text-kinds.ps names-name-text-kinds.r names-name-text-reads.Learnt
-
   -- levels
   pub levels-level-word : Determines 1 levels-level-word-kinds.ps levels-level-word-kinds.r levels-level-word-reads.Learnt
   pub levels-good-level : Determines 0 levels-good-level-kinds.ps levels-good-level-kinds.r levels-good-level-reads.Learnt
   pub levels-empty-level : Determines 0 levels-empty-level-kinds.ps levels-empty-level-kinds.r levels-empty-level-reads.Learnt
-
   -- motions
   pub motions-compass-word : Determines 1 motions-compass-word-kinds.ps motions-compass-word-kinds.r motions-compass-word-reads.Learnt
   pub motions-intensity-word : Determines 1 motions-intensity-word-kinds.ps motions-intensity-word-kinds.r motions-intensity-word-reads.Learnt
   pub motions-good-speed : Determines 0 motions-good-speed-kinds.ps motions-good-speed-kinds.r motions-good-speed-reads.Learnt
   pub motions-speed-word : Determines 1 motions-speed-word-kinds.ps motions-speed-word-kinds.r motions-speed-word-reads.Learnt
-
   -- pens
   pub pens-put : Settles 1 pens-put-kinds.ps pens-put-kinds.r pens-put-reads.Learnt
   pub pens-put-all : Settles 2 pens-put-all-kinds.ps pens-put-all-kinds.r pens-put-all-reads.Learnt
@@ -239,45 +229,35 @@ pub record Functions : Type 0 where
   pub pens-put-figures : Settles 1 pens-put-figures-kinds.ps pens-put-figures-kinds.r pens-put-figures-reads.Learnt
   pub pens-put-letters : Settles 1 pens-put-letters-kinds.ps pens-put-letters-kinds.r pens-put-letters-reads.Learnt
   pub pens-put-short : Settles 1 pens-put-short-kinds.ps pens-put-short-kinds.r pens-put-short-reads.Learnt
-
   -- calendar
   pub calendar-limit-of : Determines 0 calendar-limit-of-kinds.ps calendar-limit-of-kinds.r calendar-limit-of-reads.Learnt
   pub calendar-start-of : Determines 0 calendar-start-of-kinds.ps calendar-start-of-kinds.r calendar-start-of-reads.Learnt
   pub calendar-end-of : Determines 0 calendar-end-of-kinds.ps calendar-end-of-kinds.r calendar-end-of-reads.Learnt
   pub calendar-target-of : Determines 0 calendar-target-of-kinds.ps calendar-target-of-kinds.r calendar-target-of-reads.Learnt
-
   -- message
   pub message-empty : Determines 0 message-empty-kinds.ps message-empty-kinds.r message-empty-reads.Learnt
   pub message-is-good : Determines 0 message-is-good-kinds.ps message-is-good-kinds.r message-is-good-reads.Learnt
   pub message-names-itself : Determines 0 message-names-itself-kinds.ps message-names-itself-kinds.r message-names-itself-reads.Learnt
-
   -- grammar
   pub grammar-refusal : Determines 0 grammar-refusal-kinds.ps grammar-refusal-kinds.r grammar-refusal-reads.Learnt
-
   -- passages
   pub passages-read-text : Determines 1 passages-read-text-kinds.ps passages-read-text-kinds.r passages-read-text-reads.Learnt
-
   -- reader
   pub reader-read : Determines 1 reader-read-kinds.ps reader-read-kinds.r reader-read-reads.Learnt
-
   -- sections
   pub sections-put-text : Settles 1 sections-put-text-kinds.ps sections-put-text-kinds.r sections-put-text-reads.Learnt
-
   -- writer
   pub writer-write : Settles 1 writer-write-kinds.ps writer-write-kinds.r writer-write-reads.Learnt
-
   -- places
   pub places-same-identity : Determines 0 places-same-identity-kinds.ps places-same-identity-kinds.r places-same-identity-reads.Learnt
   pub places-no-place : Determines 0 places-no-place-kinds.ps places-no-place-kinds.r places-no-place-reads.Learnt
   pub places-empty-place : Determines 0 places-empty-place-kinds.ps places-empty-place-kinds.r places-empty-place-reads.Learnt
   pub places-good-place : Determines 0 places-good-place-kinds.ps places-good-place-kinds.r places-good-place-reads.Learnt
   pub places-claim-of : Determines 0 places-claim-of-kinds.ps places-claim-of-kinds.r places-claim-of-reads.Learnt
-
   -- board
   pub board-new : Determines 0 board-new-kinds.ps board-new-kinds.r board-new-reads.Learnt
   pub board-is-good : Determines 0 board-is-good-kinds.ps board-is-good-kinds.r board-is-good-reads.Learnt
   pub board-refusal-at : Determines 0 board-refusal-at-kinds.ps board-refusal-at-kinds.r board-refusal-at-reads.Learnt
   pub board-post : Determines 0 board-post-kinds.ps board-post-kinds.r board-post-reads.Learnt
-
   -- listing
   pub listing-list : Settles 1 listing-list-kinds.ps listing-list-kinds.r listing-list-reads.Learnt

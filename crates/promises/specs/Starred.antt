@@ -78,44 +78,36 @@ pub record Starred : Type 0 where
   pub sample-length : length sampleText ≡ 130
   pub sample-read : readOf sampleText ≡ acceptance sample
   pub sample-written : textOf sample ≡ sampleText
-
   -- "`E180` for E114: read. `E181`: 9 at 100."
   pub east-180 : readOf (reporting "E OF E180 SFC/FL100 MOV E 20KT WKN=") ≡ acceptance (eastOf E180)
   pub east-181 : readOf (reporting "E OF E181 SFC/FL100 MOV E 20KT WKN=") ≡ refusal 9 100
-
   -- "`FCST` for WKN: 11 at 126. ` NC` after WKN: 12 at 130. No `=`: 3 at 129."
   pub forecast-for-intensity : readOf (reporting "E OF E114 SFC/FL100 MOV E 20KT FCST=") ≡ refusal 11 126
   pub intensity-twice : readOf (reporting "E OF E114 SFC/FL100 MOV E 20KT WKN NC=") ≡ refusal 12 130
   pub no-sign : readOf (reporting "E OF E114 SFC/FL100 MOV E 20KT WKN") ≡ refusal 3 129
-
   -- "N00 and S0000 both have value 0. S90 is -5,400; N9001 is refused."
   pub north-0 : Valued "N00" (pos 0)
   pub south-0 : Valued "S0000" (pos 0)
   pub south-90 : Valued "S90" (negℤ (pos 5400))
   pub north-90-01 : coordinateOf northSouth (bytes "N9001") ≡ noCoordinate
   pub north-90-01-read : readOf (reporting "N OF N9001 SFC/FL100 MOV E 20KT WKN=") ≡ refusal 9 100
-
   -- "Clock 12,648,030 (2024-01-18 0830Z): start 12,648,030, end 12,648,270."; the sample is a WS, kind 2
   pub the-18th : minuteOf 2024 1 18 8 30 ≡ 12648030
   pub start : startOf 12648030 (dayAndTime 18 8 30) ≡ 12648030
   pub end : endOf 2 12648030 (dayAndTime 18 12 30) ≡ 12648270
-
   -- "Sample posted then; listed at that minute, in hex: `01 00C0FE5E 02 51424242 312020 20 00C0FE5E 00C0FF4E`."
   pub posted : postOf emptyBoard 12648030 sample .answer ≡ 0
   pub listed : listOf withSample 12648030 (page 22)
       ≡ tells (hex "01" ++ (hex "00C0FE5E" ++ (hex "02" ++ (hex "51424242" ++ (hex "312020" ++ (hex "20" ++ (hex "00C0FE5E" ++ hex "00C0FF4E"))))))) (page 22)
-
   -- "At 12,648,269 one message; at 12,648,270 only kind 1."
   pub last-minute : listOf withSample 12648269 (page 22)
       ≡ tells (hex "01" ++ (hex "00C0FF4D" ++ (hex "02" ++ (hex "51424242" ++ (hex "312020" ++ (hex "20" ++ (hex "00C0FE5E" ++ hex "00C0FF4E"))))))) (page 22)
   pub over : listOf withSample 12648270 (page 22) ≡ tells (hex "01" ++ hex "00C0FF4E") (page 22)
-
   -- "Clock 12,709,380 (2024-02-29 2300Z), start 010100 is 12,709,500. Clock 2023-02-28 2300Z, start 290100: 18."
   pub the-29th : minuteOf 2024 2 29 23 0 ≡ 12709380
   pub leap-year : startOf 12709380 (dayAndTime 1 1 0) ≡ 12709500
   pub the-28th : minuteOf 2023 2 28 23 0 ≡ 12182340
   pub common-year : postOf emptyBoard 12182340 onTheTwentyNinth .answer ≡ 18
-
   -- "Sequence 2, VALID 181100/181230, `CNL SIGMET 1 180830/181230`, posted at 12,648,180: the sample is off the list; at 12,648,181 the sample posted again gets 22, the cancellation posted again 21."
   pub cancellation-read : readOf (laterSaying "QBBB NORTH SOUND FIR CNL SIGMET 1 180830/181230=") ≡ acceptance cancelling
   pub cancelled : postOf withSample 12648180 cancelling .answer ≡ 0
