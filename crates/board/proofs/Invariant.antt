@@ -17,13 +17,14 @@ use Rattle.places.specs.Places.{sameIdentity, noIdentity, noPlace, emptyPlace, 
 use Rattle.places.specs.Claims.{claimOf}
 use Rattle.places.specs.declared.Place.{Place}
 use Rattle.places.proofs.HeldLaws.{same-identity-is, identity-parts, identity-held, held-some, no-place-empty, empty-good, empty-identity, held-good-place}
-use Rattle.places.proofs.ClaimedLaws.{claim-held}
+use Rattle.places.proofs.ClaimLaws.{claim-held}
 use Rattle.board.specs.Boards.{placeCount, inRange, differs, distinct, goodPlaces, goodBoard, emptyBoard, refusalAt}
 use Rattle.board.specs.Posts.{kept, dropped, holds, spotOf, placeAt, settled, claimedOn, postOf}
 use Rattle.board.specs.declared.Board.{Board}
+use Rattle.board.proofs.RefusalLaws.{unrefused-parts}
 use Rattle.board.proofs.DistinctLaws.{distinct-two, distinct-set}
 
--- "`Board::new()` is good."
+-- The empty board is good.
 pub new-good : goodBoard emptyBoard ≡ true
 unfolding goodBoard goodPlaces goodPlace emptyPlace sameIdentity distinct allOf
 new-good = refl
@@ -129,23 +130,6 @@ spot-distinct ps p s d =
     (λ t. rw t (distinct-set ps (indexOf (holds (p .identity)) ps) p d (others ps p s d)))
     (λ f. rw f (distinct-set ps (indexOf emptyPlace ps) p d (λ j l n. others ps p s d j l (λ e. absurd (omega (arith, e, l, ltb-false (indexOf (holds (p .identity)) ps) (length ps) f))))))
 
--- a call that is not refused has a clock in range
-pub in-range : (b : Board) (clock : ℕ) → refusalAt b clock ≡ 0 → inRange clock ≡ true
-unfolding refusalAt
-in-range b clock =
-    by (goodBoard b)
-    (λ g. rw g (by (inRange clock) (λ t z. t) (λ f. rw f (λ z. absurd (omega (arith, z))))))
-    (λ g. rw g (λ z. absurd (omega (arith, z))))
-
--- and a good board
-pub unrefused-good : (b : Board) (time : ℕ) → refusalAt b time ≡ 0 → goodBoard b ≡ true
-unfolding refusalAt
-unrefused-good b time h =
-    by (goodBoard b) (λ (t : goodBoard b ≡ true). t) (λ (f : goodBoard b ≡ false). absurd (never (rw f at h)))
-  where
-    never : _≡_ {A = ℕ} 36 0 → ⊥
-    never e = omega arith
-
 settled-good : (b : Board) (clock : ℕ) (p : Place) → goodBoard b ≡ true → inRange clock ≡ true → heldPlace clock p ≡ true → goodBoard (settled b clock p .board) ≡ true
 unfolding settled placeAt
 settled-good b clock p g r h =
@@ -160,12 +144,12 @@ settled-good b clock p g r h =
     (spot-distinct left p some (dropped-distinct (b .clock) clock (b .places) (parts .places) (parts .distincts)))))
     (λ f. rw f g)
 
--- "from a good board every call leaves a good board": a post does; a listing hands the board back to nobody and changes none.
+-- Every post leaves a good board good; a listing changes none.
 pub post-good : (b : Board) (clock : ℕ) (r : Record) → goodBoard b ≡ true → goodBoard (postOf b clock r .board) ≡ true
 unfolding postOf claimedOn
 post-good b clock r g =
     by (eqb (refusalAt b clock) 0)
     (λ t. rw t (by (eqb (claimOf clock r .answer) 0)
-    (λ u. rw u (settled-good b clock (claimOf clock r .place) g (in-range b clock (eqb-true (refusalAt b clock) 0 t)) (claim-held clock r (eqb-true (claimOf clock r .answer) 0 u))))
+    (λ u. rw u (settled-good b clock (claimOf clock r .place) g (unrefused-parts b clock (eqb-true (refusalAt b clock) 0 t) .ranged) (claim-held clock r (eqb-true (claimOf clock r .answer) 0 u))))
     (λ u. rw u g)))
     (λ f. rw f g)

@@ -21,7 +21,7 @@ use Rattle.message.specs.declared.Record.{Record}
 use Rattle.places.specs.Places.{sameIdentity, noIdentity, noPlace, emptyPlace}
 use Rattle.places.specs.Claims.{isTest, claimOf}
 use Rattle.places.specs.declared.Place.{Place}
-use Rattle.places.proofs.ClaimedLaws.{cancelled-claim, test-unclaimed}
+use Rattle.places.proofs.ClaimLaws.{cancelled-claim, test-unclaimed}
 use Rattle.board.specs.Boards.{refusalAt}
 use Rattle.board.specs.Posts.{kept, dropped, holds, objection, spotOf, placeAt, settled, claimedOn, postOf}
 use Rattle.board.specs.declared.Board.{Board}

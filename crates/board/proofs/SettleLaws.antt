@@ -54,6 +54,28 @@ objects-not held p e t m f s =
     let v : both (not (p .marked)) (leb (p .correction) (held .correction)) ≡ false = sym f ∙ s in
     rw (u, m, v)
 
+-- the same, by marks and corrections
+module _ (q p : Place) where
+  pub objection-22 : q .marked ≡ true → p .marked ≡ false → objection q p ≡ 22
+  unfolding objection
+  objection-22 m n = rw (m, n)
+
+  pub objection-again : q .marked ≡ true → p .marked ≡ true → objection q p ≡ 21
+  unfolding objection
+  objection-again m n = rw (m, n)
+
+  pub objection-21 : q .marked ≡ false → p .marked ≡ false → p .correction ≤ q .correction → objection q p ≡ 21
+  unfolding objection
+  objection-21 m n l = rw (m, n, le-leb (p .correction) (q .correction) l)
+
+  pub objection-none : q .marked ≡ false → p .marked ≡ false → q .correction < p .correction → objection q p ≡ 0
+  unfolding objection
+  objection-none m n l = rw (m, n, lt-leb (p .correction) (q .correction) l)
+
+  pub objection-marks : q .marked ≡ false → p .marked ≡ true → objection q p ≡ 0
+  unfolding objection
+  objection-marks m n = rw (m, n)
+
 -- where a place goes
 pub spot-held : (ps : List Place) (p : Place) {k a : ℕ} → length ps ≡ 64 → k ≡ indexOf (holds (p .identity)) ps → k < 64 → a ≡ objection (getD ps k noPlace) p
     → record { answer = a; at = k } ≡ spotOf ps p
@@ -79,6 +101,23 @@ spot-within ps p z =
     (λ f. by (ltb (indexOf emptyPlace ps) (length ps))
     (λ t. rw f (ltb-true _ _ t))
     (λ g. let w = rw (f, g) at z in absurd (omega (arith, w))))
+
+-- 36 is none of these numbers
+pub objection-36 : (q p : Place) → objection q p ≡ 36 → ⊥
+unfolding objection
+objection-36 q p =
+    by (both (q .marked) (not (p .marked)))
+    (λ t. rw t (λ e. absurd (omega (arith, e))))
+    (λ t. rw t (by (q .marked)
+    (λ u. rw u (λ e. absurd (omega (arith, e))))
+    (λ u. rw u (by (both (not (p .marked)) (leb (p .correction) (q .correction))) (λ v. rw v (λ e. absurd (omega (arith, e)))) (λ v. rw v (λ e. absurd (omega (arith, e))))))))
+
+pub spot-36 : (ps : List Place) (p : Place) → spotOf ps p .answer ≡ 36 → ⊥
+unfolding spotOf
+spot-36 ps p =
+    by (ltb (indexOf (holds (p .identity)) ps) (length ps))
+    (λ t. rw t (objection-36 (getD ps (indexOf (holds (p .identity)) ps) noPlace) p))
+    (λ t. rw t (by (ltb (indexOf emptyPlace ps) (length ps)) (λ u. rw u (λ e. absurd (omega (arith, e)))) (λ u. rw u (λ e. absurd (omega (arith, e))))))
 
 pub finds : (ps : List Place) (p : Place) {s : Spot} → length ps ≡ 64 → s ≡ spotOf ps p → Finds ps p s
 finds ps p {s} l e =

@@ -1,7 +1,7 @@
 -- Each public contract of this crate determines its reply: two replies that it allows on the same arguments are equal.
 -- Assumes nothing.
 use Rattle.lists.proofs.Choice.{determined}
-use Rattle.lists.proofs.Determined.{Determines}
+use Rattle.lists.specs.Determined.{Determines}
 use Rattle.calendar.proofs.limit_of.Kinds as limit-of-kinds
 use Rattle.calendar.proofs.limit_of.Reads as limit-of-reads
 use Rattle.calendar.proofs.start_of.Kinds as start-of-kinds

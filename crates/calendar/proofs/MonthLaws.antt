@@ -9,7 +9,7 @@ use lib.ListN.{getD}
 use borrow.Author.Tests.{leb-true, ltb-true, ltb-false}
 use Rattle.lists.specs.Choice.{pick, both}
 use Rattle.lists.specs.Lists.{allOf}
-use Rattle.lists.proofs.Choice.{by, both-left, both-right, pick-true, pick-false}
+use Rattle.lists.proofs.Choice.{by, both-left, pick-true, pick-false}
 use Rattle.lists.proofs.Lists.{all-at}
 use Rattle.calendar.specs.Gregorian.{lengths, leap, monthLength, firstDay, months, Falls, dayFrom, dayOfMonth}
 
@@ -32,9 +32,6 @@ month-usual m = length-usual (both (eqb (m % 12) 1) (leap (2000 + m / 12))) _ (m
 
 pub month-least : (m : ℕ) → 28 ≤ monthLength m
 month-least m = leb-true 28 (monthLength m) (both-left (leb 28 (monthLength m)) (leb (monthLength m) 31) (month-usual m))
-
-pub month-most : (m : ℕ) → monthLength m ≤ 31
-month-most m = leb-true (monthLength m) 31 (both-right (leb 28 (monthLength m)) (leb (monthLength m) 31) (month-usual m))
 
 -- Where it begins.
 

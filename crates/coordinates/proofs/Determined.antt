@@ -1,7 +1,7 @@
 -- Each public contract of this crate determines its reply: two replies that it allows on the same arguments are equal.
 -- Assumes nothing.
 use Rattle.lists.proofs.Choice.{determined}
-use Rattle.lists.proofs.Determined.{Determines}
+use Rattle.lists.specs.Determined.{Determines}
 use Rattle.coordinates.proofs.latitude.Kinds as latitude-kinds
 use Rattle.coordinates.proofs.latitude.Reads as latitude-reads
 use Rattle.coordinates.proofs.longitude.Kinds as longitude-kinds

@@ -5,12 +5,12 @@ use mathlib.Core.Logic.{_⊎_, inl, inr}
 use mathlib.Core.Path.{_≡_, refl}
 use Prim.Native.Nat.{_+_, _*_, _≤_, _<_}
 use native.Mathlib.Omega.{arith}
-use lib.Dec.{eqb, leb, ltb, lit<}
+use lib.Dec.{eqb, leb, ltb}
 use borrow.Author.Tests.{eqb-true, leb-true, ltb-true, eq-eqb, ne-eqb, le-leb, lt-ltb}
 use Rattle.lists.specs.Choice.{both, either}
 use Rattle.lists.proofs.Choice.{by, clash, both-left, both-right, both-true, both-false-left, either-left, either-right, either-cases, either-false}
-use Rattle.coordinates.specs.Coordinates.{Axis, northSouth, written, counted, goodCoordinate, emptyCoordinate, noCoordinate}
-use Rattle.coordinates.specs.Points.{goodPoint, emptyPoint, noPoint}
+use Rattle.coordinates.specs.Coordinates.{Axis, written, counted, goodCoordinate, emptyCoordinate, noCoordinate}
+use Rattle.coordinates.specs.Points.{emptyPoint, noPoint}
 use Rattle.coordinates.specs.declared.Coordinate.{Coordinate}
 use Rattle.coordinates.specs.declared.Point.{Point}
 
@@ -118,10 +118,3 @@ module _ (a : Axis) (p : 0 < a .plus) (m : 0 < a .minus) where
 
   pub good-not-empty : (c : Coordinate) → goodCoordinate a c ≡ true → emptyCoordinate c ≡ false
   good-not-empty c g = by (emptyCoordinate c) (λ e. clash (goodCoordinate a c) g (empty-not-good c e)) (λ e. e)
-
-pub empty-point-not-good : (p : Point) → emptyPoint p ≡ true → goodPoint p ≡ false
-unfolding goodPoint
-empty-point-not-good p e = rw (empty-point-is p e) (both-false-left _ (none-bad northSouth (lit< tt) (lit< tt)))
-
-pub good-point-not-empty : (p : Point) → goodPoint p ≡ true → emptyPoint p ≡ false
-good-point-not-empty p g = by (emptyPoint p) (λ e. clash (goodPoint p) g (empty-point-not-good p e)) (λ e. e)

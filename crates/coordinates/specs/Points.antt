@@ -1,11 +1,11 @@
 -- 01, "A point is a latitude word and a longitude word." "Points are equal when their latitudes are equal and their longitudes differ
 -- by 0 or 21,600."
 -- Assumes nothing.
-use mathlib.Core.Bool.{Bool, false}
+use mathlib.Core.Bool.{Bool}
 use mathlib.Core.List.{List, [], _∷_}
 use Prim.Native.Nat.{ℕ}
 use lib.Dec.{eqb}
-use lib.IntN.{ℤ, pos, negsuc, natAbs, _-ℤ_}
+use lib.IntN.{ℤ, natAbs, _-ℤ_}
 use Rattle.lists.specs.Choice.{both, either}
 use Rattle.coordinates.specs.Coordinates.{northSouth, eastWest, goodCoordinate, emptyCoordinate, noCoordinate, spellCoordinate, signedOf}
 use Rattle.coordinates.specs.declared.Coordinate.{Coordinate}

@@ -1,7 +1,7 @@
 -- Each public contract of this crate determines its reply: two replies that it allows on the same arguments are equal.
 -- Assumes nothing.
 use Rattle.lists.proofs.Choice.{determined}
-use Rattle.lists.proofs.Determined.{Determines}
+use Rattle.lists.specs.Determined.{Determines}
 use Rattle.figures.proofs.is_letter.Kinds as is-letter-kinds
 use Rattle.figures.proofs.is_letter.Reads as is-letter-reads
 use Rattle.figures.proofs.is_digit.Kinds as is-digit-kinds

@@ -8,13 +8,13 @@ use native.Mathlib.Nat.{pow-le-pow-right, le-trans}
 use native.Mathlib.Omega.{arith}
 use lib.Dec.{leb, ltb, lit<}
 use lib.ListN.{length, length-map}
-use borrow.Author.Tests.{leb-true, le-leb, lt-ltb, le-ltb, ltb-true}
+use borrow.Author.Tests.{le-leb, lt-ltb, le-ltb, ltb-true}
 use Rattle.lists.specs.Choice.{pick, both}
 use Rattle.lists.specs.Lists.{allOf, part}
 use Rattle.lists.specs.Base.{worth, places}
 use Rattle.lists.proofs.Choice.{both-left, both-right, both-true, pick-true}
 use Rattle.lists.proofs.Lists.{all-map, all-weaken, length-part}
-use Rattle.lists.proofs.Base.{worth-places, places-worth, worth-lt, length-places, places-small}
+use Rattle.lists.proofs.Base.{worth-places, places-worth, length-places, places-small}
 use Rattle.words.specs.Bytes.{digit}
 use Rattle.words.proofs.Ranges.{between-low, between-high}
 use Rattle.figures.specs.Figures.{figure, asFigure, figuresOf, inFigures, capped, twoOf, threeOf}
@@ -71,9 +71,6 @@ figures-good w h = picked (both (leb (length w) 5) (allOf digit w)) (worth 10 (m
 pub figures-digits : (w : List ℕ) → figuresOf w < 100000 → allOf digit w ≡ true
 figures-digits w h = both-right (leb (length w) 5) (allOf digit w) (figures-good w h)
 
-pub figures-short : (w : List ℕ) → figuresOf w < 100000 → length w ≤ 5
-figures-short w h = leb-true (length w) 5 (both-left (leb (length w) 5) (allOf digit w) (figures-good w h))
-
 pub figures-worth : (w : List ℕ) → figuresOf w < 100000 → figuresOf w ≡ worth 10 (map figure w)
 unfolding figuresOf
 figures-worth w h = pick-true (worth 10 (map figure w)) 100000 (figures-good w h)
@@ -90,9 +87,6 @@ figures-back w h =
 -- a part that counts as figures is those figures
 pub figures-part : (w : List ℕ) (a e : ℕ) → a ≤ e → e ≤ length w → figuresOf (part a e w) < 100000 → part a e w ≡ inFigures (e - a) (figuresOf (part a e w))
 figures-part w a e h k l = sym (rw (length-part a e w h k) at (figures-back (part a e w) l))
-
-pub figures-lt : (w : List ℕ) → figuresOf w < 100000 → figuresOf w < 10 ^ length w
-figures-lt w h = rw (figures-worth w h, ← length-map w figure) (worth-lt 10 (map figure w) (digits-small w (figures-digits w h)))
 
 -- The same below a limit.
 
@@ -117,9 +111,6 @@ module _ (limit : ℕ) where
     pub capped-back : inFigures (length w) (capped limit (figuresOf w)) ≡ w
     capped-back = rw told (figures-back w (omega (arith, told)))
 
-    pub capped-lt : capped limit (figuresOf w) < 10 ^ length w
-    capped-lt = rw told (figures-lt w (omega (arith, told)))
-
 pub two-forth : (n : ℕ) → n < 100 → twoOf (inFigures 2 n) ≡ n
 two-forth n h = capped-forth 100 2 n (omega arith) h h
 
@@ -131,6 +122,3 @@ three-forth k n h l = capped-forth 1000 k n (omega arith) l (le-trans l (pow-le-
 
 pub three-back : (w : List ℕ) → threeOf w < 1000 → inFigures (length w) (threeOf w) ≡ w
 three-back w h = capped-back 1000 (omega arith) w h
-
-pub three-lt : (w : List ℕ) → threeOf w < 1000 → threeOf w < 10 ^ length w
-three-lt w h = capped-lt 1000 (omega arith) w h

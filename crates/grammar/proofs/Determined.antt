@@ -1,7 +1,7 @@
 -- The public contract of this crate determines its reply: two replies that it allows on the same number and place are equal.
 -- Assumes nothing.
 use Rattle.lists.proofs.Choice.{determined}
-use Rattle.lists.proofs.Determined.{Determines}
+use Rattle.lists.specs.Determined.{Determines}
 use Rattle.grammar.proofs.refusal.Kinds as refusal-kinds
 use Rattle.grammar.proofs.refusal.Reads as refusal-reads
 

@@ -28,8 +28,9 @@ use Rattle.coordinates.specs.declared.Point.{Point}
 use Rattle.groups.specs.Groups.{spellTime}
 use Rattle.groups.specs.declared.Time.{Time}
 use Rattle.groups.proofs.GroupLaws.{length-group, length-period, length-time}
-use Rattle.headings.specs.Headings.{typeWords, spellDesignator, spellOffice}
+use Rattle.headings.specs.Headings.{typeWords, spellDesignator}
 use Rattle.headings.specs.Sequences.{characters, goodSequence, letterOf, spellSequence}
+use Rattle.headings.proofs.HeadingLaws.{length-office}
 use Rattle.headings.specs.declared.Designator.{Designator}
 use Rattle.headings.specs.declared.Sequence.{Sequence}
 use Rattle.levels.specs.Levels.{feetFigures, spellLevelWord, levelWords}
@@ -142,9 +143,6 @@ unfolding spellSequence
 sequence-most s g =
     rw (length-append (letterOf (s .letter)), length-inFigures (s .digits) (s .number))
     (omega (arith, letter-most (s .letter), sequence-digits s g))
-
-length-office : (o : ℕ) → length (spellOffice o) ≡ 5
-length-office o = rw (length-append (inLetters 4 o), length-inLetters 4 o)
 
 first-size : (l : FirstLine) → goodSequence (l .sequence) ≡ true → size (lineWords l) ≤ 43
 unfolding lineWords

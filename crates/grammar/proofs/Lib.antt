@@ -9,10 +9,10 @@ pub mod Observations
 pub mod Weather
 pub mod Forms
 pub mod Ashes
-pub mod PlaceLaws
+pub mod LocationLaws
 pub mod Outlines
 pub mod Endings
-pub mod Places
+pub mod Locations
 pub mod Extents
 pub mod Sections
 pub mod Forth

@@ -40,7 +40,7 @@ use Rattle.grammar.specs.States.Move.{goes}
 use Rattle.grammar.specs.Steps.{closingAt, after, settled, step}
 use Rattle.grammar.proofs.Invariant.{unclosed}
 use Rattle.grammar.proofs.Moves.{walk-step}
-use Rattle.grammar.proofs.PlaceLaws.{joined-last}
+use Rattle.grammar.proofs.LocationLaws.{joined-last}
 use Rattle.grammar.proofs.Told.{trailed}
 
 abbrev pub pointAt : Coordinate → Coordinate → Point

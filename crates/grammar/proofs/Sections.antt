@@ -22,7 +22,7 @@ use Rattle.grammar.proofs.Opening.{designator-sound, designator-next, c
 use Rattle.grammar.proofs.Weather.{storm-sound, storm-next, severe-sound, severe-next, ice-sound, ice-next, heavy-sound, heavy-next, radioactive-sound, radioactive-next}
 use Rattle.grammar.proofs.Invariant.{Ok, ObservationOk, PhenomenonOk, SiteOk}
 use Rattle.grammar.proofs.Moves.{Fine, fine-end, Next, next-end}
-use Rattle.grammar.proofs.Places.{place-sound, place-next, location-starts}
+use Rattle.grammar.proofs.Locations.{place-sound, place-next, location-starts}
 
 report-place : (o : ToObservation) (w : List ℕ) → ObservationOk o → Fine (atPlace (inReport o) atLocation) w (stepPlace (inReport o) atLocation w)
 report-place o w k = place-sound level-sound forecast-end (inReport o) atLocation w k tt

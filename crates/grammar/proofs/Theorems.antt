@@ -75,8 +75,8 @@ pub read-replied : (b : List ℕ) → Replied b (readOf b)
 read-replied b = replied sound next good-accepted b
 
 -- … and no other.
-pub read-determined : (b : List ℕ) (q : Reply) → Replied b q → q ≡ readOf b
-read-determined b q h = reply-only sound next good-accepted b q h
+pub replied-only : (b : List ℕ) (q : Reply) → Replied b q → q ≡ readOf b
+replied-only b q h = reply-only sound next good-accepted b q h
 
 -- Reading the canonical text of a good record gives that record: it always fits, so number 24 stays unused under today's limits.
 pub good-text-read : (r : Record) → good r ≡ true → readOf (textOf r) ≡ acceptance r

@@ -1,7 +1,7 @@
 -- Each public contract of this crate determines its reply: two replies that it allows on the same arguments are equal.
 -- Assumes nothing.
 use Rattle.lists.proofs.Choice.{determined}
-use Rattle.lists.proofs.Determined.{Determines}
+use Rattle.lists.specs.Determined.{Determines}
 use Rattle.groups.proofs.good_group.Kinds as good-group-kinds
 use Rattle.groups.proofs.good_group.Reads as good-group-reads
 use Rattle.groups.proofs.same_group.Kinds as same-group-kinds

@@ -1,7 +1,7 @@
 -- 01, "day, hour, minute in six digits", "Day 01-31, hour 00-23, minute 00-59 in every six-digit group; hour and minute alike in `GGggZ`."
 -- Assumes nothing.
 use mathlib.Core.Bool.{Bool}
-use mathlib.Core.List.{List, [], _∷_, _++_}
+use mathlib.Core.List.{List, _∷_, _++_}
 use Prim.Native.Char.{code}
 use Prim.Native.Nat.{ℕ}
 use lib.Dec.{leb, eqb}

@@ -1,7 +1,7 @@
 -- Each public contract of this crate determines its reply: two replies that it allows on the same arguments are equal.
 -- Assumes nothing.
 use Rattle.lists.proofs.Choice.{determined}
-use Rattle.lists.proofs.Determined.{Determines}
+use Rattle.lists.specs.Determined.{Determines}
 use Rattle.headings.proofs.two_letters.Kinds as two-letters-kinds
 use Rattle.headings.proofs.two_letters.Reads as two-letters-reads
 use Rattle.headings.proofs.four_letters.Kinds as four-letters-kinds

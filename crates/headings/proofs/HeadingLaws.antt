@@ -5,7 +5,7 @@ use mathlib.Core.List.{List, _++_}
 use mathlib.Core.Logic.{inl, inr}
 use mathlib.Core.Path.{_≡_, refl}
 use Prim.Native.Char.{code}
-use Prim.Native.Nat.{ℕ, _+_, _-_, _/_, _%_, _^_, _≤_, _<_}
+use Prim.Native.Nat.{ℕ, _+_, _/_, _%_, _^_, _≤_, _<_}
 use native.Mathlib.Omega.{arith}
 use lib.Dec.{leb, ltb, eqb, lit<}
 use lib.ListN.{length, getD, length-append}
@@ -197,7 +197,7 @@ officeTest w = marked 5 4 (code "-") w
 four-letters-reads : Reads (lettersOf 4) (inLetters 4) (goodLetters 4) 0
 four-letters-reads = letters-reads 4 (lit< tt) (lit< tt)
 
-length-office : (o : ℕ) → length (spellOffice o) ≡ 5
+pub length-office : (o : ℕ) → length (spellOffice o) ≡ 5
 length-office o = rw (length-append (inLetters 4 o), length-inLetters 4 o)
 
 office-forth : (o : ℕ) → goodLetters 4 o ≡ true → officeOf (spellOffice o) ≡ o

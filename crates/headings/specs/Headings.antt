@@ -7,7 +7,7 @@ use Prim.Native.Char.{code}
 use Prim.Native.Nat.{ℕ}
 use lib.Dec.{leb, eqb}
 use lib.ListN.{length, getD}
-use Rattle.lists.specs.Choice.{pick, both, either}
+use Rattle.lists.specs.Choice.{pick, both}
 use Rattle.lists.specs.Lists.{part}
 use Rattle.lists.specs.Text.{bytes}
 use Rattle.words.specs.Bytes.{between}

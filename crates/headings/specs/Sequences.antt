@@ -2,8 +2,8 @@
 -- Assumes nothing.
 use mathlib.Core.Bool.{Bool}
 use mathlib.Core.List.{List, [], _∷_, _++_}
-use Prim.Native.Nat.{ℕ, _+_, _-_, _^_}
-use lib.Dec.{leb, ltb, eqb}
+use Prim.Native.Nat.{ℕ, _-_, _^_}
+use lib.Dec.{ltb, eqb}
 use lib.ListN.{length, getD, drop}
 use Rattle.lists.specs.Choice.{pick, both, either}
 use Rattle.words.specs.Bytes.{between, letter as isLetter}

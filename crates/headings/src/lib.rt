@@ -4,7 +4,7 @@ ghost use Prim.Native.Nat.{_^_};
 ghost use Rattle.lists.specs.Choice.{pick};
 ghost use Rattle.words.specs.Bytes.{between};
 ghost use Rattle.figures.specs.Letters.{goodLetters};
-ghost use Rattle.headings.specs.Headings.{goodType, typeOf, goodDesignator, designatorOf, goodCorrection, correctionOf, officeOf};
+ghost use Rattle.headings.specs.Headings.{typeOf, goodDesignator, designatorOf, goodCorrection, correctionOf, officeOf};
 ghost use Rattle.headings.specs.Sequences.{goodSequence, sequenceOf};
 use figures::code;
 use figures::is_letter;

@@ -7,17 +7,15 @@ use mathlib.Core.Path.{_≡_, refl, ap, sym, _∙_}
 use Prim.Native.Nat.{ℕ, zero, suc, _+_, _-_, _≤_, _<_}
 use native.Mathlib.Nat.{le-refl, not-suc-le-zero, le-of-suc-le-suc}
 use native.Mathlib.Omega.{arith}
-use lib.Dec.{leb, ltb, eqb, lit<}
+use lib.Dec.{ltb, eqb, lit<}
 use lib.ListN.{length, take, drop, length-append, length-drop}
 use lib.Seq.{take-all}
-use borrow.Author.Tests.{leb-true, ltb-true, ltb-false, lt-ltb, le-ltb}
+use borrow.Author.Tests.{ltb-true, ltb-false, lt-ltb, le-ltb}
 use Rattle.lists.specs.Choice.{both}
 use Rattle.lists.specs.Lists.{indexOf, allOf, part, same}
 use Rattle.lists.specs.Text.{bytes}
-use Rattle.lists.proofs.Choice.{by, both-left, both-right, both-assoc, pick-true}
-use Rattle.lists.proofs.Lists.{all-at, index-past, index-all, same-is}
-use Rattle.words.specs.Bytes.{allowed, plain}
-use Rattle.words.specs.Words.{runOf, plainWord}
+use Rattle.lists.proofs.Choice.{by, both-assoc, pick-true}
+use Rattle.lists.proofs.Lists.{index-past, index-all, same-is}
 use Rattle.figures.specs.Keywords.{short, codeOf, distinct, wordIn}
 use Rattle.figures.specs.Reads.{Reads}
 use Rattle.figures.specs.Tables.{numberIn}
@@ -125,15 +123,5 @@ keywords-count : 0 < length keywords
 unfolding shortKeywords longKeywords keywords
 keywords-count = lit< tt
 
-keywords-plain : allOf (runOf plain) keywords ≡ true
-unfolding shortKeywords longKeywords keywords allOf allowed
-keywords-plain = refl
-
 pub keyword-reads : Reads keywordOf spellKeyword goodKeyword 0
 keyword-reads = numbers-reads 1 keywords (lit< tt) keywords-count keywords-distinct
-
-pub keyword-plain : (n : ℕ) → goodKeyword n ≡ true → plainWord (spellKeyword n) ≡ true
-keyword-plain n g =
-    let low : 1 ≤ n = leb-true 1 n (both-left (leb 1 n) (leb n (1 + length keywords - 1)) g) in
-    let high : n ≤ 1 + length keywords - 1 = leb-true n (1 + length keywords - 1) (both-right (leb 1 n) (leb n (1 + length keywords - 1)) g) in
-    rw (le-ltb n 1 low) (all-at (runOf plain) keywords [] keywords-plain (n - 1) (omega (arith, keywords-count)))

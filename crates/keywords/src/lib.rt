@@ -1,4 +1,5 @@
-// The fixed words of the paper that have no table of their own: phenomenon words and keywords, by number.
+// The fixed words of the paper that have no table of their own: phenomenon words and keywords, by number. The reader compares
+// most of them itself, by their codes, and asks here for the two that are longer than a code.
 ghost use mathlib.Core.Path.{_≡_};
 ghost use Rattle.figures.specs.Tables.{numberIn};
 ghost use Rattle.keywords.specs.Keywords.{keywordOf, longKeywords};

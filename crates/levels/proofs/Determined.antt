@@ -1,7 +1,7 @@
 -- Each public contract of this crate determines its reply: two replies that it allows on the same arguments are equal.
 -- Assumes nothing.
 use Rattle.lists.proofs.Choice.{determined}
-use Rattle.lists.proofs.Determined.{Determines}
+use Rattle.lists.specs.Determined.{Determines}
 use Rattle.levels.proofs.level_word.Kinds as level-word-kinds
 use Rattle.levels.proofs.level_word.Reads as level-word-reads
 use Rattle.levels.proofs.good_level.Kinds as good-level-kinds

@@ -1,8 +1,8 @@
 -- The reply of a listing: a refusal counts nothing and leaves the buffer as it was, and a listing counts its own bytes, which fit in the
--- buffer; what it lists is what is in force on a good board. What is left for `list`: one law for each reply. And the paper's sample, listed.
+-- buffer; what it lists is what is in force on a good board. What is left for `list`: one law for each reply.
 -- Assumes nothing.
 use mathlib.Core.Bool.{true, false}
-use mathlib.Core.List.{List, [], _∷_, _++_}
+use mathlib.Core.List.{List, _++_}
 use mathlib.Core.Path.{_≡_, refl, subst, sym, _∙_}
 use Prim.Native.Nat.{ℕ, _+_, _*_, _≤_, _<_}
 use native.Mathlib.Omega.{arith}
@@ -14,10 +14,11 @@ use Rattle.lists.proofs.Choice.{by}
 use Rattle.places.specs.declared.Place.{Place}
 use Rattle.board.specs.Boards.{refusalAt}
 use Rattle.board.specs.declared.Board.{Board}
-use Rattle.board.proofs.Invariant.{board-parts, unrefused-good}
-use Rattle.listing.specs.Rows.{inForce, selected, IsRows, inserted, sortedAfter, rowsOf}
+use Rattle.board.proofs.RefusalLaws.{unrefused-parts}
+use Rattle.board.proofs.Invariant.{board-parts}
+use Rattle.listing.specs.Rows.{IsRows, rowsOf}
 use Rattle.listing.specs.Holding.{rowsIn, HoldsRows}
-use Rattle.listing.specs.Listings.{timeRecord, messageRecord, records, listingOf, listOf, told, Lists}
+use Rattle.listing.specs.Listings.{listingOf, listOf, told, PutsListing}
 use Rattle.listing.specs.declared.Listed.{Listed}
 use Rattle.listing.specs.declared.rows.Rows.{Rows}
 use Rattle.listing.proofs.RowLaws.{rows-are, listing-length, listing-most}
@@ -68,14 +69,14 @@ module _ (b : Board) (time : ℕ) (buffer : List ℕ) where
 -- at answer 0 the board is good, so the rows listed are the places in force, each once, strictly in the order
 pub listed-rows : (b : Board) (time : ℕ) (buffer : List ℕ) → listOf b time buffer .answer ≡ 0 → IsRows time (b .places) (rowsOf time (b .places))
 listed-rows b time buffer a =
-    rows-are time (b .places) (board-parts b (unrefused-good b time (unrefused b time buffer a)) .distincts)
+    rows-are time (b .places) (board-parts b (unrefused-parts b time (unrefused b time buffer a) .sound) .distincts)
 
 -- "At most 1,093 bytes"
 pub count-most : (b : Board) (time : ℕ) (buffer : List ℕ) → listOf b time buffer .count ≤ 1093
 count-most b time buffer =
     by (eqb (listOf b time buffer .answer) 0) (λ (z : eqb (listOf b time buffer .answer) 0 ≡ true).
     let a : listOf b time buffer .answer ≡ 0 = eqb-true (listOf b time buffer .answer) 0 z in
-    let long : length (b .places) ≡ 64 = board-parts b (unrefused-good b time (unrefused b time buffer a)) .long in
+    let long : length (b .places) ≡ 64 = board-parts b (unrefused-parts b time (unrefused b time buffer a) .sound) .long in
     omega (arith, count-is b time buffer a, listing-most time (b .places) long)) (λ (z : eqb (listOf b time buffer .answer) 0 ≡ false).
     omega (arith, refused-untouched b time buffer (eqb-false (listOf b time buffer .answer) 0 z) .0))
 
@@ -104,42 +105,17 @@ no-room b time r buffer rows number e z held h w =
     rw (eq-eqb (refusalAt b time) 0 (sym e ∙ z), lt-ltb (length buffer) (length (listingOf time (b .places))) long) (told-is r buffer 14 0 (w .0) (w .1))
 
 -- all rows are on the page
-listed-all : (time : ℕ) (ps : List Place) {page after : List ℕ} {n : ℕ} → Lists time (rowsOf time ps) page n after
+listed-all : (time : ℕ) (ps : List Place) {page after : List ℕ} {n : ℕ} → PutsListing time (rowsOf time ps) page n after
     → (n ≡ length (listingOf time ps)) × (after ≡ listingOf time ps ++ drop (length (listingOf time ps)) page)
 unfolding listingOf
-listed-all time ps l = (l .counted, l .page-then)
+listed-all time ps l = (l .counted, l .leaves)
 
 pub all-listed : (b : Board) (time : ℕ) (buffer : List ℕ) (rows : Rows) (number : ℕ) {count : ℕ} {after : List ℕ} → number ≡ refusalAt b time
-    → number ≡ 0 → HoldsRows (rowsOf time (b .places)) rows → 5 + rows .count * 17 ≤ length buffer → Lists time (rowsIn rows) buffer count after
+    → number ≡ 0 → HoldsRows (rowsOf time (b .places)) rows → 5 + rows .count * 17 ≤ length buffer → PutsListing time (rowsIn rows) buffer count after
     → told (record { answer = 0; count = count }) after ≡ listOf b time buffer
 unfolding listOf
 all-listed b time buffer rows number {count} {after} e z held h l =
     let fits : length (listingOf time (b .places)) ≤ length buffer = omega (arith, counted-bytes time (b .places) rows held) in
-    let all = listed-all time (b .places) (subst (λ (x : List Place). Lists time x buffer count after) (held .says) l) in
+    let all = listed-all time (b .places) (subst (λ (x : List Place). PutsListing time x buffer count after) (held .says) l) in
     rw (eq-eqb (refusalAt b time) 0 (sym e ∙ z), le-ltb (length buffer) (length (listingOf time (b .places))) fits)
     (λ i. record { answer = 0; count = all .0 i; buffer = all .1 i })
-
--- 01, "Sample posted then; listed at that minute, in hex: `01 00C0FE5E 02 51424242 312020 20 00C0FE5E 00C0FF4E`. At 12,648,269 one message; at
--- 12,648,270 only kind 1." Here of the place that the sample takes, given by hand; crate replay posts it.
-
-abbrev sample : Place
-sample =
-    record {
-      identity = record { kind = 2; area = 1363296834; sequence = 3219488; start = 12648030; end = 12648270 };
-      correction = 0;
-      marked = false;
-    }
-
-pub sample-listed : listingOf 12648030 (sample ∷ [])
-    ≡ (1 ∷ 0 ∷ 192 ∷ 254 ∷ 94 ∷ [])
-    ++ (2 ∷ 81 ∷ 66 ∷ 66 ∷ 66 ∷ 49 ∷ 32 ∷ 32 ∷ 32 ∷ 0 ∷ 192 ∷ 254 ∷ 94 ∷ 0 ∷ 192 ∷ 255 ∷ 78 ∷ [])
-unfolding listingOf rowsOf selected inForce sortedAfter inserted records messageRecord timeRecord places
-sample-listed = refl
-
-pub sample-last-minute : length (rowsOf 12648269 (sample ∷ [])) ≡ 1
-unfolding rowsOf selected inForce sortedAfter inserted
-sample-last-minute = refl
-
-pub sample-ended : listingOf 12648270 (sample ∷ []) ≡ timeRecord 12648270
-unfolding listingOf rowsOf selected inForce sortedAfter records timeRecord places
-sample-ended = refl

@@ -37,8 +37,11 @@ records [] = []
 records (p ∷ ps) = messageRecord p ++ records ps
 
 -- "Kind 1 comes first, and each record goes in from the place where the one before it ended."
+abbrev pub listing : ℕ → List Place → List ℕ
+listing time rows = timeRecord time ++ records rows
+
 unfoldable pub listingOf : ℕ → List Place → List ℕ
-listingOf time places = timeRecord time ++ records (rowsOf time places)
+listingOf time places = listing time (rowsOf time places)
 
 -- the reply of a listing with the buffer as it is then
 pub record Told : Type 0 where
@@ -66,6 +69,6 @@ abbrev pub told : Listed → List ℕ → Told
 told r buffer = record { answer = r .answer; count = r .count; buffer = buffer }
 
 -- rows written at the front of a page, with the count of bytes
-pub record Lists (time : ℕ) (rows : List Place) (page : List ℕ) (count : ℕ) (after : List ℕ) : Type 0 where
-  pub counted : count ≡ length (timeRecord time ++ records rows)
-  pub page-then : after ≡ (timeRecord time ++ records rows) ++ drop (length (timeRecord time ++ records rows)) page
+pub record PutsListing (time : ℕ) (rows : List Place) (page : List ℕ) (count : ℕ) (after : List ℕ) : Type 0 where
+  pub counted : count ≡ length (listing time rows)
+  pub leaves : after ≡ listing time rows ++ drop (length (listing time rows)) page

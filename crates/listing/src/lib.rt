@@ -4,7 +4,7 @@ ghost use Prim.Native.Nat.{_+_, _*_, _≤_};
 ghost use lib.ListN.{length};
 ghost use Rattle.pens.specs.Pens.{Puts};
 ghost use Rattle.listing.specs.Holding.{rowsIn};
-ghost use Rattle.listing.specs.Listings.{timeRecord, correctionByte, messageRecord, listOf, told, Lists};
+ghost use Rattle.listing.specs.Listings.{timeRecord, correctionByte, messageRecord, listOf, told, PutsListing};
 
 mod ordering;
 mod rows;
@@ -54,7 +54,7 @@ fn put_record(out: &mut [u8], p: Place) -> usize
 // The whole listing, for which there is room. Each record goes in from the place where the one before it ended.
 fn put_listing(out: &mut [u8], time: u32, rows: Rows) -> usize
     requires { ⌜ (rows .count ≤ 64) × (5 + rows .count * 17 ≤ length (now out)) ⌝ }
-    ensures { λ r. ⌜ Lists time (rowsIn rows) (now (out .entry)) r (now (out .exit)) ⌝ }
+    ensures { λ r. ⌜ PutsListing time (rowsIn rows) (now (out .entry)) r (now (out .exit)) ⌝ }
 {
     let places = rows.places;
     let count = rows.count;
@@ -77,7 +77,7 @@ fn refused(number: u8) -> Listed
     }
 }
 
-// Lists what is in force at a time, at the front of the buffer.
+// PutsListing what is in force at a time, at the front of the buffer.
 pub fn list(board: Board, time: u32, out: &mut [u8]) -> Listed
     ensures { λ r. ⌜ told r (now (out .exit)) ≡ listOf board time (now (out .entry)) ⌝ }
 {

@@ -143,12 +143,6 @@ all-take f zero xs t = refl
 all-take f (suc n) [] t = refl
 all-take f (suc n) (x ∷ xs) t = both-true (both-left (f x) (allOf f xs) t) (all-take f n xs (both-right (f x) (allOf f xs) t))
 
-pub all-drop : {A : Type 0} (f : A → Bool) (n : ℕ) (xs : List A) → allOf f xs ≡ true → allOf f (drop n xs) ≡ true
-unfolding allOf
-all-drop f zero xs t = t
-all-drop f (suc n) [] t = refl
-all-drop f (suc n) (x ∷ xs) t = all-drop f n xs (both-right (f x) (allOf f xs) t)
-
 pub all-map : {A B : Type 0} (f : B → Bool) (g : A → B) (xs : List A) → allOf f (map g xs) ≡ allOf (λ (x : A). f (g x)) xs
 unfolding allOf
 all-map f g [] = refl

@@ -1,4 +1,5 @@
--- Changing every element of a list in place, one after the other, as a loop over an array does.
+-- Changing every element of a list in place, one after the other, as a loop over an array does. And the length of a list by
+-- that of what it is mapped to.
 -- Assumes nothing.
 use mathlib.Core.List.{List, _++_, map, append-nil}
 use mathlib.Core.Path.{_≡_, sym, _∙_}
@@ -19,6 +20,6 @@ module _ {A : Type 0} (f : A → A) (d : A) where
   pub swept-all : (xs : List A) (i : ℕ) → length xs ≤ i → take i xs ++ map f (drop i xs) ≡ xs
   swept-all xs i h = rw (take-all i xs h, drop-of-length-le xs h) (append-nil xs)
 
--- an array of structs that is a field of a struct has the length that its values have
+-- a list has the length of its map: so the length of an array of structs that is a field of a struct is known
 pub length-mapped : (X Y : Type 0) (f : X → Y) (l : List X) (n : ℕ) → length (map f l) ≡ n → length l ≡ n
 length-mapped X Y f l n e = sym (length-map l f) ∙ e

@@ -2,3 +2,4 @@ pub mod Choice
 pub mod Lists
 pub mod Base
 pub mod Text
+pub mod Determined

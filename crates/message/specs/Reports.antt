@@ -83,6 +83,7 @@ goodObservation o =
 unfoldable pub emptyObservation : Observation → Bool
 emptyObservation o = both (not (o .timed)) (both (eqb (o .word) 0) (both (eqb (o .time .hour) 0) (eqb (o .time .minute) 0)))
 
+-- without a time its places are zero; `noTime` is the answer for a word that is no time
 abbrev pub noObservation : Observation
 noObservation = record { word = 0; timed = false; time = record { hour = 0; minute = 0 } }
 

@@ -2,10 +2,9 @@
 -- before `=`, nothing after it."
 -- Assumes nothing.
 use mathlib.Core.List.{List, [], _∷_, _++_}
-use Prim.Native.Nat.{ℕ}
+use Prim.Native.Nat.{ℕ, _-_}
 use lib.Dec.{eqb}
 use lib.ListN.{getD}
-use Prim.Native.Nat.{_-_}
 use Rattle.lists.specs.Choice.{pick}
 use Rattle.lists.specs.Text.{bytes}
 use Rattle.words.specs.Words.{line}

@@ -1,7 +1,7 @@
 -- Each public contract of this crate determines its reply: two replies that it allows on the same arguments are equal.
 -- Assumes nothing.
 use Rattle.lists.proofs.Choice.{determined}
-use Rattle.lists.proofs.Determined.{Determines}
+use Rattle.lists.specs.Determined.{Determines}
 use Rattle.motions.proofs.compass_word.Kinds as compass-word-kinds
 use Rattle.motions.proofs.compass_word.Reads as compass-word-reads
 use Rattle.motions.proofs.intensity_word.Kinds as intensity-word-kinds

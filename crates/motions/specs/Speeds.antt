@@ -3,8 +3,7 @@
 use mathlib.Core.Bool.{Bool}
 use mathlib.Core.List.{List, [], _∷_, _++_}
 use Prim.Native.Nat.{ℕ}
-use lib.Dec.{eqb}
-use lib.ListN.{length, drop}
+use lib.ListN.{drop}
 use Rattle.lists.specs.Choice.{both}
 use Rattle.lists.specs.Lists.{part}
 use Rattle.lists.specs.Text.{bytes}

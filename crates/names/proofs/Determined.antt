@@ -1,7 +1,7 @@
 -- Each public contract of this crate determines its reply: two replies that it allows on the same arguments are equal.
 -- Assumes nothing.
 use Rattle.lists.proofs.Choice.{determined}
-use Rattle.lists.proofs.Determined.{Determines}
+use Rattle.lists.specs.Determined.{Determines}
 use Rattle.names.proofs.name_word.Kinds as name-word-kinds
 use Rattle.names.proofs.name_word.Reads as name-word-reads
 use Rattle.names.proofs.closing_word.Kinds as closing-word-kinds

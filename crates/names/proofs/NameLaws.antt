@@ -19,13 +19,13 @@ use Rattle.lists.proofs.Choice.{by, clash, both-unit, both-left, both-right, bo
 use Rattle.lists.proofs.Lists.{index-found, index-clear, index-all, all-append, all-weaken}
 use Rattle.lists.proofs.Parts.{part-rest}
 use Rattle.words.specs.Bytes.{letter, solid, allowed, plain}
-use Rattle.words.specs.Words.{wordsIn, solidWord, plainWord, line}
-use Rattle.words.proofs.Words.{run-all, words-line-end}
+use Rattle.words.specs.Words.{plainWord, line}
+use Rattle.words.proofs.Words.{run-all}
 use Rattle.figures.specs.Keywords.{codeOf, distinct, wordIn, inTable}
 use Rattle.figures.specs.Reads.{Reads}
 use Rattle.figures.specs.Tables.{numbered}
 use Rattle.figures.proofs.Keywords.{same-code}
-use Rattle.figures.proofs.PlainLaws.{letter-plain, byte-solid, plain-solid}
+use Rattle.figures.proofs.PlainLaws.{letter-plain, byte-solid}
 use Rattle.figures.proofs.TableLaws.{numbered-all, numbers-reads}
 use Rattle.names.specs.Names.{closingWords, closingOf, goodClosing, nameByte, nameWord, closers, inName, onto, pieces, nameText}
 
@@ -219,10 +219,6 @@ solid-space x e = by (eqb 32 x) (λ h. clash false (rw (← (eqb-true 32 x h)) a
 pub plain-spaceless : (w : List ℕ) → plainWord w ≡ true → spaceless w ≡ true
 plain-spaceless w e = all-weaken plain (λ (x : ℕ). not (eqb 32 x)) (λ x h. solid-space x (byte-solid x h)) w (run-all plain w e)
 
--- a name word has no space
-pub name-word-spaceless : (w : List ℕ) → nameWord w ≡ true → spaceless w ≡ true
-name-word-spaceless w e = plain-spaceless w (name-word-plain w e)
-
 pub in-name-spaceless : (m : Bool) (w : List ℕ) → inName m w ≡ true → spaceless w ≡ true
 in-name-spaceless m w e = plain-spaceless w (in-name-plain m w e)
 
@@ -231,8 +227,3 @@ name-one m w e = name-word-alone m w (in-name-spaceless m w e) ∙ e
 
 pub name-grow : (m : Bool) (t w : List ℕ) → nameText m t ≡ true → inName m w ≡ true → nameText m (t ++ (32 ∷ w)) ≡ true
 name-grow m t w e f = name-append m t w ∙ both-true e (name-one m w f)
-
--- the words of a name's text are its pieces, and the `=`
-pub name-words : (m : Bool) (t : List ℕ) → nameText m t ≡ true → wordsIn t ≡ pieces t ++ ([] ∷ [])
-name-words m t e =
-    ap wordsIn (sym (line-pieces t)) ∙ words-line-end (pieces t) (all-weaken plainWord solidWord plain-solid (pieces t) (pieces-plain m t e))

@@ -1,8 +1,6 @@
 // Names: one word of a name, the words that close one, and the text of a whole name.
-ghost use mathlib.Core.Bool.{not};
 ghost use mathlib.Core.Path.{_≡_};
 ghost use lib.Dec.{eqb};
-ghost use Prim.Native.Nat.{_≤_};
 ghost use Rattle.lists.specs.Lists.{allOf, indexFrom};
 ghost use Rattle.names.specs.Names.{nameByte, nameWord, closingOf, inName, nameText};
 use figures::code;

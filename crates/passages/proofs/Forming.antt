@@ -18,7 +18,6 @@ use Rattle.figures.proofs.Kept.{reads-spelled}
 use Rattle.keywords.specs.Keywords.{shortKeywords, longKeywords, keywords, keywordOf, goodKeyword, spellKeyword}
 use Rattle.keywords.proofs.KeywordLaws.{keyword-reads}
 use Rattle.message.specs.Names.{noName}
-use Rattle.grammar.specs.Runs.Ran.{refused}
 use Rattle.grammar.specs.States.{ToArea}
 use Rattle.grammar.specs.States.State.{atForm, atStorm, atSevere, atIce, atAsh, atEruption, atPosition}
 use Rattle.grammar.specs.Steps.{goesIf, stormWords, stormOf, goodStorm, stepWeather, step}

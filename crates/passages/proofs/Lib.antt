@@ -4,7 +4,7 @@ pub mod KindLaws
 pub mod Tells
 pub mod FixedWords
 pub mod Sides
-pub mod Closing
+pub mod FirstWords
 pub mod Determined
 pub mod Forming
 pub mod NameText

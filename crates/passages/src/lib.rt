@@ -30,7 +30,7 @@ use grammar::Reply;
 use grammar::refusal;
 use message::Record;
 
-// The text before the first `=`.
+// The reply to the text before the first `=`: its record, or 4 to 12 at a word.
 pub fn read_text(text: &[u8]) -> Reply
     ensures { λ r. ⌜ r ≡ replyOf (runAt atDesignator (now (text .entry)) 0) ⌝ }
 {

@@ -1,7 +1,7 @@
 -- The public contracts of this crate settle reply and buffer: two outcomes that one allows on the same arguments are equal.
 -- Assumes nothing.
 use mathlib.Core.Path.{ap}
-use Rattle.lists.proofs.Determined.{Settles}
+use Rattle.lists.specs.Determined.{Settles}
 use Rattle.pens.specs.Pens.{Pen}
 use Rattle.pens.proofs.PenLaws.{puts-same, words-same}
 use Rattle.pens.proofs.put.Kinds as put-kinds

@@ -1,119 +1,128 @@
--- What a message asks for, one law for each return of the code.
+-- What a message claims where it is not refused: a held place, a marked one for a cancellation; and nothing for a test.
 -- Assumes nothing.
-use mathlib.Core.Bool.{Bool, true, false, not}
-use mathlib.Core.Path.{_≡_, sym, _∙_}
-use Prim.Native.Nat.{ℕ, _≤_, _<_}
-use borrow.Author.Tests.{le-leb, lt-leb, eq-eqb, ne-eqb, not-true, not-false}
-use Rattle.lists.proofs.Choice.{both-left}
+use mathlib.Core.Bool.{true}
+use mathlib.Core.Path.{_≡_, refl}
+use Prim.Native.Nat.{ℕ, _<_}
+use native.Mathlib.Omega.{arith}
+use lib.Dec.{leb, eqb}
+use borrow.Author.Tests.{eqb-false, leb-false}
+use Rattle.lists.specs.Choice.{both}
+use Rattle.lists.proofs.Choice.{by, both-left, both-true}
+use Rattle.figures.specs.Letters.{goodLetters}
 use Rattle.groups.specs.declared.Group.{Group}
+use Rattle.headings.specs.Headings.{goodType, goodDesignator}
 use Rattle.headings.specs.Sequences.{goodSequence}
 use Rattle.headings.specs.declared.Sequence.{Sequence}
-use Rattle.message.specs.Records.{goodCancellation, goodForm, good}
-use Rattle.message.specs.Reports.{emptyReport}
-use Rattle.message.proofs.Goodness.{good-parts, line-parts, cancellation-parts}
+use Rattle.message.specs.Records.{good}
 use Rattle.message.specs.declared.Form.{Form}
 use Rattle.message.specs.declared.Form.the-variants.{NoForm, Test, Cancellation, Reported}
 use Rattle.message.specs.declared.Record.{Record}
+use Rattle.message.proofs.Goodness.{good-parts, heading-parts, area-parts}
 use Rattle.calendar.specs.Gregorian.{never}
-use Rattle.calendar.specs.Instants.{startOf, endOf, targetOf}
-use Rattle.places.specs.Claims.{unclaimed, claimed, identityOf, reportPlace, targetPlace, ending, cancels, timed, isTest, claimOf}
+use Rattle.calendar.specs.Instants.{endOf, targetOf}
+use Rattle.calendar.proofs.CalendarLaws.{end-bound, end-within, target-bound, target-within}
+use Rattle.places.specs.Padded.{heldSequence, paddedOf}
+use Rattle.places.specs.Places.{heldCorrection, heldPlace}
+use Rattle.places.specs.Claims.{identityOf, reportPlace, targetPlace, ending, cancels, timed, isTest, startAt, endAt, claimOf}
 use Rattle.places.specs.declared.Claim.{Claim}
-use Rattle.places.specs.declared.Identity.{Identity}
 use Rattle.places.specs.declared.Place.{Place}
+use Rattle.places.proofs.PaddedLaws.{padded-held}
+use Rattle.places.proofs.ClaimReturns.{named-good, own-good}
+use Rattle.places.proofs.HeldLaws.{identity-held}
 
--- "20 end at or before the clock"
-pub ended : (clock end : ℕ) (p : Place) {k : Claim} → end ≤ clock → k ≡ unclaimed 20 → k ≡ ending clock end p
+-- What a message claims is held.
+
+record-formed : (r : Record) (s : Sequence) → good r ≡ true → goodSequence s ≡ true
+    → both (goodType (r .heading .designator .kind)) (both (goodLetters 4 (r .area .indicator)) (heldSequence (paddedOf s))) ≡ true
+unfolding goodDesignator
+record-formed r s g h =
+    both-true (both-left (goodType (r .heading .designator .kind)) _ (heading-parts (r .heading) (good-parts r g .heading) .designator))
+    (both-true (area-parts (r .area) (good-parts r g .area) .indicator) (padded-held s h))
+
+report-held : (clock : ℕ) (r : Record) (start : ℕ) → good r ≡ true → (endOf (r .heading .designator .kind) start (r .line .valid .to) ≡ never → ⊥)
+    → clock < endOf (r .heading .designator .kind) start (r .line .valid .to) → heldPlace clock (reportPlace r start (endOf (r .heading .designator .kind) start (r .line .valid .to))) ≡ true
+unfolding heldPlace reportPlace heldCorrection
+report-held clock r start g n l =
+    let end : ℕ = endOf (r .heading .designator .kind) start (r .line .valid .to) in
+    let early : end < never = omega (arith, n, end-bound (r .heading .designator .kind) start (r .line .valid .to)) in
+    let w = end-within (r .heading .designator .kind) start (r .line .valid .to) early in
+    both-true
+    (identity-held clock (identityOf r (r .line .sequence) start end) (record { formed = record-formed r (r .line .sequence) g (own-good r g); starts = w .0; short = w .1; lasts = l; timely = early }))
+    (heading-parts (r .heading) (good-parts r g .heading) .correction)
+
+target-held : (clock : ℕ) (r : Record) (s : Sequence) (from : Group) (end : ℕ) → good r ≡ true → goodSequence s ≡ true → end < never
+    → (targetOf (r .heading .designator .kind) end from ≡ never → ⊥) → clock < end → heldPlace clock (targetPlace r s (targetOf (r .heading .designator .kind) end from) end) ≡ true
+unfolding heldPlace targetPlace heldCorrection
+target-held clock r s from end g h e n l =
+    let start : ℕ = targetOf (r .heading .designator .kind) end from in
+    let w = target-within (r .heading .designator .kind) end from (omega (arith, n, target-bound (r .heading .designator .kind) end from)) in
+    both-true
+    (identity-held clock (identityOf r s start end) (record { formed = record-formed r s g h; starts = w .0; short = w .1; lasts = l; timely = e }))
+    refl
+
+-- a claim that is not refused
+abbrev Holds : ℕ → Claim → Type 0
+Holds clock c = c .answer ≡ 0 → heldPlace clock (c .place) ≡ true
+
+ending-holds : (clock end : ℕ) (p : Place) → (clock < end → heldPlace clock p ≡ true) → Holds clock (ending clock end p)
 unfolding ending
-ended clock end p h e = e ∙ rw (le-leb end clock h)
+ending-holds clock end p h =
+    by (leb end clock)
+    (λ t. rw t (λ z. absurd (omega (arith, z))))
+    (λ f. rw f (λ z. h (leb-false end clock f)))
 
-pub unended : (clock end : ℕ) (p : Place) → clock < end → claimed p ≡ ending clock end p
-unfolding ending
-unended clock end p h = rw (lt-leb end clock h)
+form-holds : (clock : ℕ) (r : Record) → good r ≡ true → (endAt clock r ≡ never → ⊥) → (f : Form) → r .form ≡ f → Holds clock (timed clock r (startAt clock r) (endAt clock r) f)
+unfolding timed cancels
+form-holds clock r g n NoForm e = λ z. absurd (omega (arith, z))
+form-holds clock r g n (Test k) e = λ z. absurd (omega (arith, z))
+form-holds clock r g n (Cancellation s from) e =
+    by (eqb (targetOf (r .heading .designator .kind) (endAt clock r) from) never)
+    (λ t. rw t (λ z. absurd (omega (arith, z))))
+    (λ f. rw f (ending-holds clock (endAt clock r) (targetPlace r s (targetOf (r .heading .designator .kind) (endAt clock r) from) (endAt clock r)) (λ l.
+    target-held clock r s from (endAt clock r) g (named-good r g e) (omega (arith, n, end-bound (r .heading .designator .kind) (startAt clock r) (r .line .valid .to)))
+    (eqb-false (targetOf (r .heading .designator .kind) (endAt clock r) from) never f) l)))
+form-holds clock r g n Reported e =
+    ending-holds clock (endAt clock r) (reportPlace r (startAt clock r) (endAt clock r)) (report-held clock r (startAt clock r) g n)
 
--- a report
-pub reports : (clock : ℕ) (r : Record) (start end : ℕ) {i : Identity} {k : Claim} → i ≡ identityOf r (r .line .sequence) start end
-    → k ≡ ending clock end (record { identity = i; correction = r .heading .correction; marked = false }) → k ≡ ending clock end (reportPlace r start end)
-unfolding reportPlace
-reports clock r start end e f = rw e at f
-
--- a cancellation without a target's start, and with one
-pub untargeted : (clock : ℕ) (r : Record) (s : Sequence) (from : Group) (end : ℕ) {target : ℕ} {k : Claim} → target ≡ targetOf (r .heading .designator .kind) end from
-    → target ≡ never → k ≡ unclaimed 19 → k ≡ cancels clock r s from end
-unfolding cancels
-untargeted clock r s from end t e f = f ∙ rw (← t, eq-eqb _ never e)
-
-pub targeted : (clock : ℕ) (r : Record) (s : Sequence) (from : Group) (end : ℕ) {target : ℕ} {i : Identity} {k : Claim} → target ≡ targetOf (r .heading .designator .kind) end from
-    → (target ≡ never → ⊥) → i ≡ identityOf r s target end → k ≡ ending clock end (record { identity = i; correction = 0; marked = true }) → k ≡ cancels clock r s from end
-unfolding cancels targetPlace
-targeted clock r s from end {target} t n e f =
-    let g = rw e at f in
-    g ∙ rw (← t, ne-eqb target never n)
-
--- the whole claim
-pub bad-record : (clock : ℕ) (r : Record) {g : Bool} {k : Claim} → g ≡ good r → not g ≡ true → k ≡ unclaimed 13 → k ≡ claimOf clock r
+pub claim-held : (clock : ℕ) (r : Record) → claimOf clock r .answer ≡ 0 → heldPlace clock (claimOf clock r .place) ≡ true
 unfolding claimOf
-bad-record clock r e t k = let f : good r ≡ false = sym e ∙ not-true _ t in k ∙ rw f
+claim-held clock r =
+    by (good r)
+    (λ g. rw g (by (isTest (r .form))
+    (λ t. rw t (λ z. absurd (omega (arith, z))))
+    (λ t. rw t (by (eqb (startAt clock r) never)
+    (λ u. rw u (λ z. absurd (omega (arith, z))))
+    (λ u. rw u (by (eqb (endAt clock r) never)
+    (λ v. rw v (λ z. absurd (omega (arith, z))))
+    (λ v. rw v (form-holds clock r g (eqb-false (endAt clock r) never v) (r .form) refl))))))))
+    (λ g. rw g (λ z. absurd (omega (arith, z))))
 
-pub a-test : (clock : ℕ) (r : Record) {g t : Bool} {k : Claim} → g ≡ good r → not g ≡ false → t ≡ isTest (r .form) → t ≡ true → k ≡ unclaimed 15 → k ≡ claimOf clock r
+-- "A cancellation marks its target's place, or takes a marked place where none is held": an accepted one claims a marked place.
+cancelled-timed : (clock : ℕ) (r : Record) (start end : ℕ) (s : Sequence) (from : Group) (f : Form) → f ≡ Cancellation s from
+    → timed clock r start end f .answer ≡ 0 → timed clock r start end f .place .marked ≡ true
+unfolding timed cancels ending targetPlace
+cancelled-timed clock r start end s from f e =
+    rw e (by (eqb (targetOf (r .heading .designator .kind) end from) never)
+    (λ v. rw v (λ z. absurd (omega (arith, z))))
+    (λ v. rw v (by (leb end clock) (λ w. rw w (λ z. absurd (omega (arith, z)))) (λ w. rw w (λ z. refl)))))
+
+pub cancelled-claim : (clock : ℕ) (r : Record) (s : Sequence) (from : Group) → r .form ≡ Cancellation s from → claimOf clock r .answer ≡ 0 → claimOf clock r .place .marked ≡ true
 unfolding claimOf
-a-test clock r e n f t k =
-    let g : good r ≡ true = sym e ∙ not-false _ n in
-    let u : isTest (r .form) ≡ true = sym f ∙ t in
-    k ∙ rw (g, u)
+cancelled-claim clock r s from e =
+    by (good r)
+    (λ g. rw g (by (isTest (r .form))
+    (λ t. rw t (λ z. absurd (omega (arith, z))))
+    (λ t. rw t (by (eqb (startAt clock r) never)
+    (λ u. rw u (λ z. absurd (omega (arith, z))))
+    (λ u. rw u (by (eqb (endAt clock r) never)
+    (λ v. rw v (λ z. absurd (omega (arith, z))))
+    (λ v. rw v (cancelled-timed clock r (startAt clock r) (endAt clock r) s from (r .form) e))))))))
+    (λ g. rw g (λ z. absurd (omega (arith, z))))
 
-pub no-start : (clock : ℕ) (r : Record) {g t : Bool} {start : ℕ} {k : Claim} → g ≡ good r → not g ≡ false → t ≡ isTest (r .form) → t ≡ false
-    → start ≡ startOf clock (r .line .valid .from) → start ≡ never → k ≡ unclaimed 18 → k ≡ claimOf clock r
+-- "15 a test"
+pub test-unclaimed : (clock : ℕ) (r : Record) → isTest (r .form) ≡ true → claimOf clock r .answer ≡ 0 → ⊥
 unfolding claimOf
-no-start clock r {start = start} e n f t s z k =
-    let g : good r ≡ true = sym e ∙ not-false _ n in
-    let u : isTest (r .form) ≡ false = sym f ∙ t in
-    k ∙ rw (g, u, ← s, eq-eqb start never z)
-
-pub no-end : (clock : ℕ) (r : Record) {g t : Bool} {start end : ℕ} {k : Claim} → g ≡ good r → not g ≡ false → t ≡ isTest (r .form) → t ≡ false
-    → start ≡ startOf clock (r .line .valid .from) → (start ≡ never → ⊥) → end ≡ endOf (r .heading .designator .kind) start (r .line .valid .to) → end ≡ never
-    → k ≡ unclaimed 19 → k ≡ claimOf clock r
-unfolding claimOf
-no-end clock r {start = start} {end = end} e n f t s z x y k =
-    let g : good r ≡ true = sym e ∙ not-false _ n in
-    let u : isTest (r .form) ≡ false = sym f ∙ t in
-    k ∙ rw (g, u, ← s, ne-eqb start never z, ← x, eq-eqb end never y)
-
-pub a-claim : (clock : ℕ) (r : Record) {g t : Bool} {start end : ℕ} {k : Claim} → g ≡ good r → not g ≡ false → t ≡ isTest (r .form) → t ≡ false
-    → start ≡ startOf clock (r .line .valid .from) → (start ≡ never → ⊥) → end ≡ endOf (r .heading .designator .kind) start (r .line .valid .to) → (end ≡ never → ⊥)
-    → k ≡ timed clock r start end (r .form) → k ≡ claimOf clock r
-unfolding claimOf
-a-claim clock r {start = start} {end = end} e n f t s z x y k =
-    let g : good r ≡ true = sym e ∙ not-false _ n in
-    let u : isTest (r .form) ≡ false = sym f ∙ t in
-    k ∙ rw (g, u, ← s, ne-eqb start never z, ← x, ne-eqb end never y)
-
-pub good-known : (r : Record) {g : Bool} → g ≡ good r → not g ≡ false → good r ≡ true
-good-known r e n = sym e ∙ not-false _ n
-
--- a good record whose start and end are known, by its form
-module _ (clock : ℕ) (r : Record) (start end : ℕ) where
-  pub timed-none : {f : Form} {k : Claim} → f ≡ NoForm → k ≡ unclaimed 13 → k ≡ timed clock r start end f
-  unfolding timed
-  timed-none e k = k ∙ rw e
-
-  pub timed-test : {f : Form} {n : ℕ} {k : Claim} → f ≡ Test n → k ≡ unclaimed 15 → k ≡ timed clock r start end f
-  unfolding timed
-  timed-test e k = k ∙ rw e
-
-  pub timed-cancels : {f : Form} {s : Sequence} {from : Group} {k : Claim} → f ≡ Cancellation s from → k ≡ cancels clock r s from end → k ≡ timed clock r start end f
-  unfolding timed
-  timed-cancels e k = k ∙ rw e
-
-  pub timed-reports : {f : Form} {k : Claim} → f ≡ Reported → k ≡ ending clock end (reportPlace r start end) → k ≡ timed clock r start end f
-  unfolding timed
-  timed-reports e k = k ∙ rw e
-
--- the sequence that a cancellation names, and a message's own
-pub named-good : (r : Record) {s : Sequence} {from : Group} → good r ≡ true → r .form ≡ Cancellation s from → goodSequence s ≡ true
-unfolding goodForm
-named-good r {s} {from} g e =
-    let f : goodForm (r .heading .designator .kind) (r .line) (r .report) (Cancellation s from) ≡ true = rw e at (good-parts r g .form) in
-    cancellation-parts (r .line) s from (both-left (goodCancellation (r .line) s from) (emptyReport (r .report)) f) .sequence
-
-pub own-good : (r : Record) → good r ≡ true → goodSequence (r .line .sequence) ≡ true
-own-good r g = line-parts (r .line) (good-parts r g .line) .sequence
+test-unclaimed clock r t =
+    by (good r)
+    (λ g. rw (g, t) (λ z. absurd (omega (arith, z))))
+    (λ g. rw g (λ z. absurd (omega (arith, z))))

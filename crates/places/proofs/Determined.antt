@@ -1,7 +1,7 @@
 -- The public contracts of this crate determine their replies: two replies that one of them allows on the same arguments are equal.
 -- Assumes nothing.
 use Rattle.lists.proofs.Choice.{determined}
-use Rattle.lists.proofs.Determined.{Determines}
+use Rattle.lists.specs.Determined.{Determines}
 use Rattle.places.proofs.places.same_identity.Kinds as same-identity-kinds
 use Rattle.places.proofs.places.same_identity.Reads as same-identity-reads
 use Rattle.places.proofs.places.no_place.Kinds as no-place-kinds

@@ -97,6 +97,13 @@ pub empty-identity : (p : Place) → emptyPlace p ≡ true → sameIdentity (p .
 unfolding emptyPlace
 empty-identity p t = both-left (sameIdentity (p .identity) noIdentity) (both (eqb (p .correction) 0) (not (p .marked))) t
 
+-- an empty place ends at 0, and so what ends later is held
+pub empty-ends : (p : Place) → emptyPlace p ≡ true → p .identity .end ≡ 0
+empty-ends p t = ap (λ (x : Identity). x .end) (same-identity-is (p .identity) noIdentity (empty-identity p t))
+
+pub ends-some : (p : Place) → 0 < p .identity .end → emptyPlace p ≡ false
+ends-some p h = by (emptyPlace p) (λ t. absurd (omega (arith, h, empty-ends p t))) (λ f. f)
+
 -- A held place is a good one.
 pub held-good-place : (clock : ℕ) (p : Place) → heldPlace clock p ≡ true → goodPlace clock p ≡ true
 unfolding goodPlace

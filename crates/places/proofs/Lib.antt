@@ -1,6 +1,6 @@
 pub mod PaddedLaws
 pub mod PlaceLaws
 pub mod HeldLaws
+pub mod ClaimReturns
 pub mod ClaimLaws
-pub mod ClaimedLaws
 pub mod Determined

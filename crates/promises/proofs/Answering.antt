@@ -1,35 +1,34 @@
 -- The number of a post is the one whose cause the history and the record give, and it has no other.
 -- Assumes nothing.
-use mathlib.Core.Bool.{Bool, true, false, not}
+use mathlib.Core.Bool.{true, false}
 use mathlib.Core.List.{List}
-use mathlib.Core.Path.{_≡_, refl, sym, ap, subst, _∙_}
+use mathlib.Core.Path.{_≡_, refl, sym, subst, _∙_}
 use Prim.Native.Nat.{ℕ, _≤_, _<_}
 use native.Mathlib.Omega.{arith}
 use lib.Dec.{leb, ltb, eqb}
-use lib.ListN.{length, getD}
-use borrow.Author.Tests.{leb-true, leb-false, ltb-true, ltb-false, eqb-true, le-leb, lt-leb, lt-ltb, le-ltb, ne-eqb}
+use borrow.Author.Tests.{leb-true, leb-false, ltb-true, ltb-false, eqb-true, le-leb, lt-ltb, le-ltb, ne-eqb}
 use Rattle.lists.proofs.Choice.{by, clash, both-true}
 use Rattle.words.proofs.Ranges.{between-low, between-high}
 use Rattle.message.specs.declared.Record.{Record}
-use Rattle.places.specs.Places.{noPlace, emptyPlace}
-use Rattle.board.specs.Boards.{inRange, goodBoard, refusalAt}
+use Rattle.places.specs.Places.{noPlace}
+use Rattle.board.specs.Boards.{inRange, refusalAt}
 use Rattle.places.specs.Claims.{claimOf}
-use Rattle.board.specs.Posts.{dropped, objection, spotOf, placeAt, settled, claimedOn, postOf}
+use Rattle.board.specs.Posts.{dropped, spotOf, placeAt, settled, claimedOn, postOf}
 use Rattle.board.specs.declared.Board.{Board}
 use Rattle.places.specs.declared.Identity.{Identity}
 use Rattle.places.specs.declared.Place.{Place}
-use Rattle.board.proofs.SettleLaws.{spot-within}
+use Rattle.board.proofs.SettleLaws.{objection-22, objection-again, objection-21, objection-none, objection-marks}
 use Rattle.promises.specs.Calls.{History}
 use Rattle.promises.specs.Accepted.{IsReport, IsCancellation, Reported, Cancelled, Known, lastClock}
 use Rattle.promises.specs.Accepted.Known.{by-report, by-cancellation}
-use Rattle.promises.specs.Answers.{InRange, Timely, Concerns, Full, PostAnswered}
+use Rattle.promises.specs.Answers.{InRange, Timely, Full, PostAnswered}
 use Rattle.promises.specs.Answers.Concerns.{reports, cancels}
 use Rattle.promises.specs.Answers.PostAnswered.{outside as by-range, early as by-clock, bad as by-record, test as by-test, no-start as by-start, no-end as by-end, no-target as by-target, ended as by-time, cancelled as by-mark, held as by-correction, again as by-target-marked, full as by-room, report-accepted, cancellation-accepted}
 use Rattle.promises.proofs.Messages.{Cause, reportedPlace, markedPlace, claim-cause, cause-claim}
 use Rattle.promises.proofs.Messages.Cause.{bad, test, no-start, no-end, no-target, ended, report, cancellation}
 use Rattle.promises.proofs.Held.{On, Goes, goes, on-dropped}
 use Rattle.promises.proofs.Held.Goes.{has, free, full}
-use Rattle.promises.proofs.Tracks.{Stands, Holder, Tracks, stands-later, stands-unnamed, stands-named, stands-as, stands-known}
+use Rattle.promises.proofs.Tracks.{Stands, Tracks, stands-later, stands-unnamed, stands-named, stands-as, stands-known}
 use Rattle.promises.proofs.Room.{holds-on, not-full, is-full}
 
 -- "36 …; 16 clock outside its range; 17 clock before the board's": of posts and listings alike.
@@ -76,27 +75,6 @@ data Settled (h : History) (clock : ℕ) (p : Place) : ℕ → Type 0 where
   placed : (Cancelled (p .identity) h → ⊥) → (p .marked ≡ false → (d : ℕ) → Reported (p .identity) d h → d < p .correction) → (Full h clock → Known (p .identity) h)
       → Settled h clock p 0
 
-module _ (q p : Place) where
-  objects-22 : q .marked ≡ true → p .marked ≡ false → objection q p ≡ 22
-  unfolding objection
-  objects-22 m n = rw (m, n)
-
-  objects-again : q .marked ≡ true → p .marked ≡ true → objection q p ≡ 21
-  unfolding objection
-  objects-again m n = rw (m, n)
-
-  objects-21 : q .marked ≡ false → p .marked ≡ false → p .correction ≤ q .correction → objection q p ≡ 21
-  unfolding objection
-  objects-21 m n l = rw (m, n, le-leb (p .correction) (q .correction) l)
-
-  objects-not : q .marked ≡ false → p .marked ≡ false → q .correction < p .correction → objection q p ≡ 0
-  unfolding objection
-  objects-not m n l = rw (m, n, lt-leb (p .correction) (q .correction) l)
-
-  marks : q .marked ≡ false → p .marked ≡ true → objection q p ≡ 0
-  unfolding objection
-  marks m n = rw (m, n)
-
 module _ {h : History} {b : Board} (t : Tracks h b) (clock : ℕ) (y : lastClock h ≤ clock) (p : Place) (l : clock < p .identity .end) where
   abbrev left : List Place
   left = dropped clock (b .places)
@@ -118,17 +96,17 @@ module _ {h : History} {b : Board} (t : Tracks h b) (clock : ℕ) (y : lastClock
       let known : Known (p .identity) h = rw (← same) (stands-known s) in
       by (q .marked)
       (λ m. by (p .marked)
-      (λ n. subst (λ (x : ℕ). Settled h clock p x) (sym (objects-again q p m n)) (target-named n (named (stands-named s m))))
-      (λ n. subst (λ (x : ℕ). Settled h clock p x) (sym (objects-22 q p m n)) (report-named n (named (stands-named s m)))))
+      (λ n. subst (λ (x : ℕ). Settled h clock p x) (sym (objection-again q p m n)) (target-named n (named (stands-named s m))))
+      (λ n. subst (λ (x : ℕ). Settled h clock p x) (sym (objection-22 q p m n)) (report-named n (named (stands-named s m)))))
       (λ m. by (p .marked)
-      (λ n. subst (λ (x : ℕ). Settled h clock p x) (sym (marks q p m n)) (placed (λ x. stands-unnamed s m (unnamed x)) (λ f. clash (p .marked) n f) (λ f. known)))
+      (λ n. subst (λ (x : ℕ). Settled h clock p x) (sym (objection-marks q p m n)) (placed (λ x. stands-unnamed s m (unnamed x)) (λ f. clash (p .marked) n f) (λ f. known)))
       (λ n. by (leb (p .correction) (q .correction))
       (λ e.
       let le = leb-true (p .correction) (q .correction) e in
-      subst (λ (x : ℕ). Settled h clock p x) (sym (objects-21 q p m n le)) (report-held n (λ x. stands-unnamed s m (unnamed x)) (forth (q .correction) (stands-as s m)) le))
+      subst (λ (x : ℕ). Settled h clock p x) (sym (objection-21 q p m n le)) (report-held n (λ x. stands-unnamed s m (unnamed x)) (forth (q .correction) (stands-as s m)) le))
       (λ e.
       let lt = leb-false (p .correction) (q .correction) e in
-      subst (λ (x : ℕ). Settled h clock p x) (sym (objects-not q p m n lt))
+      subst (λ (x : ℕ). Settled h clock p x) (sym (objection-none q p m n lt))
       (placed (λ x. stands-unnamed s m (unnamed x)) (λ f d x. omega (arith, lt, stands-later s m d (back d x))) (λ f. known)))))
   settle-cause (free {k} none w e) =
       placed (λ x. unheld-not (by-cancellation x) none) (λ f d x. absurd (unheld-not (by-report d x) none)) (λ f. absurd (not-full t y k w e f))
@@ -136,16 +114,16 @@ module _ {h : History} {b : Board} (t : Tracks h b) (clock : ℕ) (y : lastClock
 
   settled-is : {m n k : ℕ} → Settled h clock p m → Goes left p n k → n ≡ m
   settled-is (report-named f c) (has {q = q} o same) =
-      by (q .marked) (λ m. objects-22 q p m f) (λ m. absurd (stands-unnamed (standing o) m (rw same c)))
+      by (q .marked) (λ m. objection-22 q p m f) (λ m. absurd (stands-unnamed (standing o) m (rw same c)))
   settled-is (report-named f c) (free none w e) = absurd (unheld-not (by-cancellation c) none)
   settled-is (report-named f c) (full none a) = absurd (unheld-not (by-cancellation c) none)
   settled-is (report-held {d} f u r le) (has {q = q} o same) =
       by (q .marked) (λ m. absurd (u (rw (← same) (stands-named (standing o) m))))
-      (λ m. objects-21 q p m f (omega (arith, le, stands-later (standing o) m d (rw same r))))
+      (λ m. objection-21 q p m f (omega (arith, le, stands-later (standing o) m d (rw same r))))
   settled-is (report-held {d} f u r le) (free none w e) = absurd (unheld-not (by-report d r) none)
   settled-is (report-held {d} f u r le) (full none a) = absurd (unheld-not (by-report d r) none)
   settled-is (target-named f c) (has {q = q} o same) =
-      by (q .marked) (λ m. objects-again q p m f) (λ m. absurd (stands-unnamed (standing o) m (rw same c)))
+      by (q .marked) (λ m. objection-again q p m f) (λ m. absurd (stands-unnamed (standing o) m (rw same c)))
   settled-is (target-named f c) (free none w e) = absurd (unheld-not (by-cancellation c) none)
   settled-is (target-named f c) (full none a) = absurd (unheld-not (by-cancellation c) none)
   settled-is (unplaced u f) (has {q = q} o same) = absurd (u (rw (← same) (stands-known (standing o))))
@@ -153,7 +131,7 @@ module _ {h : History} {b : Board} (t : Tracks h b) (clock : ℕ) (y : lastClock
   settled-is (unplaced u f) (full none a) = refl
   settled-is (placed u later room) (has {q = q} o same) =
       by (q .marked) (λ m. absurd (u (rw (← same) (stands-named (standing o) m))))
-      (λ m. by (p .marked) (λ n. marks q p m n) (λ n. objects-not q p m n (later n (q .correction) (rw (← same) (stands-as (standing o) m)))))
+      (λ m. by (p .marked) (λ n. objection-marks q p m n) (λ n. objection-none q p m n (later n (q .correction) (rw (← same) (stands-as (standing o) m)))))
   settled-is (placed u later room) (free none w e) = refl
   settled-is (placed u later room) (full none a) = absurd (unheld-not (room (is-full t y a)) none)
 

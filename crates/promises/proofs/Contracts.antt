@@ -1,23 +1,19 @@
 -- Demands 1 and 2 hold: what crates grammar, roundtrips, board and listing have proved of the contracts, gathered.
 -- Assumes nothing.
-use mathlib.Core.Bool.{true, false, not}
+use mathlib.Core.Bool.{false}
 use mathlib.Core.List.{List, []}
 use mathlib.Core.Logic.{_↔_}
 use mathlib.Core.Path.{_≡_, refl, sym, ap, subst, _∙_}
-use Prim.Native.Nat.{ℕ, _<_, _≤_}
+use Prim.Native.Nat.{ℕ, _<_}
 use native.Mathlib.Omega.{arith}
-use lib.Dec.{leb, ltb, eqb}
-use lib.ListN.{length, getD}
-use Rattle.lists.specs.Choice.{both}
-use Rattle.lists.specs.Lists.{indexOf}
+use lib.Dec.{ltb, eqb}
+use lib.ListN.{length}
 use Rattle.lists.proofs.Choice.{by, determined}
-use Rattle.message.specs.Records.{good}
 use Rattle.message.specs.declared.Record.{Record}
-use Rattle.grammar.specs.Judged.{messageWords}
 use Rattle.grammar.specs.Reads.{acceptance, readOf}
 use Rattle.grammar.specs.Replies.{Replied}
 use Rattle.grammar.specs.Replies.Replied.{unreadable, readAs, refusedAs}
-use Rattle.grammar.specs.Writes.{Wrote, writeOf}
+use Rattle.grammar.specs.Writes.{Wrote}
 use Rattle.grammar.specs.declared.Reply.{Reply}
 use Rattle.grammar.proofs.Theorems as grammar
 use Rattle.writer.specs.Writing.{wrote}
@@ -25,17 +21,18 @@ use Rattle.writer.specs.declared.Written.{Written}
 use Rattle.roundtrips.specs.Trips.{MayRead, MayWrite}
 use Rattle.roundtrips.proofs.Outcomes.{reads, writes}
 use Rattle.roundtrips.proofs.RoundTrips as trips
-use Rattle.places.specs.Places.{noPlace, emptyPlace}
 use Rattle.places.specs.Claims.{claimOf}
 use Rattle.places.specs.declared.Place.{Place}
-use Rattle.board.specs.Boards.{inRange, goodBoard, emptyBoard, refusalAt}
-use Rattle.board.specs.Posts.{dropped, holds, objection, spotOf, placeAt, settled, claimedOn, postOf}
+use Rattle.board.specs.Boards.{goodBoard, emptyBoard, refusalAt}
+use Rattle.board.specs.Posts.{dropped, spotOf, placeAt, settled, claimedOn, postOf}
 use Rattle.board.specs.declared.Board.{Board}
 use Rattle.board.specs.declared.Posted.{Posted}
+use Rattle.board.proofs.RefusalLaws.{bad-refusal, good-refusal}
+use Rattle.board.proofs.SettleLaws.{spot-36}
 use Rattle.board.proofs.PostLaws.{refused-unchanged}
 use Rattle.listing.specs.Listings.{Told, listingOf, listOf}
 use Rattle.listing.proofs.ListLaws.{refused-untouched}
-use Rattle.promises.specs.Calls.{MayBegin, MayPost, MayList}
+use Rattle.promises.specs.Calls.{MayPost, MayList}
 use Rattle.promises.specs.Demand1.{Demand1}
 use Rattle.promises.specs.Demand2.{Says, Demand2}
 use Rattle.promises.proofs.Messages.{Cause, claim-cause}
@@ -43,12 +40,12 @@ use Rattle.promises.proofs.Messages.Cause.{bad, test, no-start, no-end,
 use Rattle.promises.proofs.Histories.{may-begin, may-post, may-list, begins-so, posts-so, lists-so}
 
 pub may-read : (bulletin : List ℕ) → MayRead bulletin (readOf bulletin)
-may-read b = record { lent = ([], tt); place = (0, 0); name = 0; allowed = refl }
+may-read b = record { lent = ([], tt); address = (0, 0); name = 0; allowed = refl }
 
 -- Demand 1.
 
 fixed : (bulletin : List ℕ) (p : Reply) → MayRead bulletin p ↔ Replied bulletin p
-fixed b p = (λ m. subst (Replied b) (sym (reads m)) (grammar.read-replied b), λ h. record { lent = ([], tt); place = (0, 0); name = 0; allowed = grammar.read-determined b p h })
+fixed b p = (λ m. subst (Replied b) (sym (reads m)) (grammar.read-replied b), λ h. record { lent = ([], tt); address = (0, 0); name = 0; allowed = grammar.replied-only b p h })
 
 one-writing : (r : Record) (buffer x y : List ℕ) (w v : Written) → MayWrite r buffer w x → MayWrite r buffer v y → (w ≡ v) × (x ≡ y)
 one-writing r buffer x y w v m n =
@@ -79,33 +76,6 @@ refused-listing b time buffer after answer count m n =
     (ap (λ (z : Told). z .count) same ∙ k .0, ap (λ (z : Told). z .buffer) same ∙ k .1)
 
 -- 36: a board that is not good, and nothing else.
-
-bad-refusal : (b : Board) (clock : ℕ) → goodBoard b ≡ false → refusalAt b clock ≡ 36
-unfolding refusalAt
-bad-refusal b clock f = rw f
-
-good-refusal : (b : Board) (clock : ℕ) → goodBoard b ≡ true → refusalAt b clock ≡ 36 → ⊥
-unfolding refusalAt
-good-refusal b clock g =
-    rw g (by (inRange clock)
-    (λ t. rw t (by (ltb clock (b .clock)) (λ u. rw u (λ e. absurd (omega (arith, e)))) (λ u. rw u (λ e. absurd (omega (arith, e))))))
-    (λ t. rw t (λ e. absurd (omega (arith, e)))))
-
-objection-36 : (q p : Place) → objection q p ≡ 36 → ⊥
-unfolding objection
-objection-36 q p =
-    by (both (q .marked) (not (p .marked)))
-    (λ t. rw t (λ e. absurd (omega (arith, e))))
-    (λ t. rw t (by (q .marked)
-    (λ u. rw u (λ e. absurd (omega (arith, e))))
-    (λ u. rw u (by (both (not (p .marked)) (leb (p .correction) (q .correction))) (λ v. rw v (λ e. absurd (omega (arith, e)))) (λ v. rw v (λ e. absurd (omega (arith, e))))))))
-
-spot-36 : (ps : List Place) (p : Place) → spotOf ps p .answer ≡ 36 → ⊥
-unfolding spotOf
-spot-36 ps p =
-    by (ltb (indexOf (holds (p .identity)) ps) (length ps))
-    (λ t. rw t (objection-36 (getD ps (indexOf (holds (p .identity)) ps) noPlace) p))
-    (λ t. rw t (by (ltb (indexOf emptyPlace ps) (length ps)) (λ u. rw u (λ e. absurd (omega (arith, e)))) (λ u. rw u (λ e. absurd (omega (arith, e))))))
 
 cause-36 : {clock n : ℕ} {r : Record} {p : Place} → Cause clock r n p → n ≡ 36 → ⊥
 cause-36 (bad f) e = omega (arith, e)
@@ -181,7 +151,7 @@ taken (readAs c g ws) e = record { readable = c; sound = g; words = ws }
 taken (refusedAs c low high at) e = absurd (omega (arith, low, e))
 
 takes-all : (bulletin : List ℕ) (p : Reply) → MayRead bulletin p → (r : Record) → Says bulletin r → p ≡ acceptance r
-takes-all b p m r s = reads m ∙ sym (grammar.read-determined b (acceptance r) (readAs (s .readable) (s .sound) (s .words)))
+takes-all b p m r s = reads m ∙ sym (grammar.replied-only b (acceptance r) (readAs (s .readable) (s .sound) (s .words)))
 
 pub demand-2 : Demand2 MayRead MayWrite
 demand-2 =

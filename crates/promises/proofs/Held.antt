@@ -1,6 +1,6 @@
 -- What is held on a board, and what an accepted post does to it: the message's place comes in, what has ended goes, and all else stays.
 -- Assumes nothing.
-use mathlib.Core.Bool.{Bool, true, false, not}
+use mathlib.Core.Bool.{true, false, not}
 use mathlib.Core.List.{List}
 use mathlib.Core.Logic.{_⊎_, inl, inr}
 use mathlib.Core.Path.{_≡_, refl, sym, ap, _∙_}
@@ -10,19 +10,18 @@ use lib.Dec.{leb, ltb, eqb}
 use lib.ListN.{length, getD, set, length-set}
 use lib.Seq.{getD-set-same, getD-set-other}
 use borrow.Author.Tests.{leb-false, ltb-true, ltb-false, lt-leb, eqb-true, eqb-false, not-true}
-use Rattle.lists.specs.Choice.{both}
 use Rattle.lists.specs.Lists.{indexOf, allOf}
-use Rattle.lists.proofs.Choice.{by, clash, both-left}
+use Rattle.lists.proofs.Choice.{by, clash}
 use Rattle.lists.proofs.Lists.{index-found, index-all, all-at}
 use Rattle.message.specs.declared.Record.{Record}
-use Rattle.places.specs.Places.{sameIdentity, noIdentity, noPlace, emptyPlace}
+use Rattle.places.specs.Places.{sameIdentity, noPlace, emptyPlace}
 use Rattle.board.specs.Boards.{distinct, goodBoard}
 use Rattle.places.specs.Claims.{claimOf}
 use Rattle.board.specs.Posts.{kept, dropped, holds, objection, spotOf, postOf}
 use Rattle.board.specs.declared.Board.{Board}
 use Rattle.places.specs.declared.Identity.{Identity}
 use Rattle.places.specs.declared.Place.{Place}
-use Rattle.places.proofs.HeldLaws.{same-identity-is, same-identity-refl, no-place-empty}
+use Rattle.places.proofs.HeldLaws.{same-identity-is, same-identity-refl, no-place-empty, ends-some}
 use Rattle.board.proofs.DistinctLaws.{distinct-two}
 use Rattle.board.proofs.Invariant.{board-parts, post-good, dropped-length}
 use Rattle.board.proofs.PostLaws.{accepted-parts, dropped-at}
@@ -33,15 +32,6 @@ pub record On (ps : List Place) (p : Place) : Type 0 where
   pub within : at < length ps
   pub there : getD ps at noPlace ≡ p
   pub some : emptyPlace p ≡ false
-
-pub empty-ends : (p : Place) → emptyPlace p ≡ true → p .identity .end ≡ 0
-unfolding emptyPlace
-empty-ends p t =
-    ap (λ (x : Identity). x .end)
-    (same-identity-is (p .identity) noIdentity (both-left (sameIdentity (p .identity) noIdentity) (both (eqb (p .correction) 0) (not (p .marked))) t))
-
-pub ends-some : (p : Place) → 0 < p .identity .end → emptyPlace p ≡ false
-ends-some p h = by (emptyPlace p) (λ t. absurd (omega (arith, h, empty-ends p t))) (λ f. f)
 
 -- No identity is held twice.
 

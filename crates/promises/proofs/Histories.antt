@@ -1,7 +1,7 @@
 -- Demand 3 holds.
 -- Assumes nothing.
-use mathlib.Core.Bool.{true, false}
-use mathlib.Core.List.{List, [], _∷_, _++_, Pairwise, Pairwise·imp, List·Memᴰ, List·Nodup}
+use mathlib.Core.Bool.{true}
+use mathlib.Core.List.{List, [], _∷_, _++_, Pairwise·imp}
 use mathlib.Core.Logic.{_↔_}
 use mathlib.Core.Path.{_≡_, refl, sym, ap, subst, _∙_}
 use Prim.Native.Nat.{ℕ, _≤_, _<_}
@@ -10,12 +10,11 @@ use lib.ListN.{length, drop}
 use Rattle.lists.proofs.Choice.{clash, determined}
 use Rattle.message.specs.declared.Record.{Record}
 use Rattle.board.specs.Boards.{emptyBoard}
-use Rattle.places.specs.Claims.{claimOf}
 use Rattle.board.specs.Posts.{postOf}
 use Rattle.board.specs.declared.Board.{Board}
 use Rattle.places.specs.declared.Identity.{Identity}
 use Rattle.places.specs.declared.Place.{Place}
-use Rattle.listing.specs.Order.{Precedes, Before}
+use Rattle.listing.specs.Order.{Precedes}
 use Rattle.listing.specs.Rows.{rowsOf}
 use Rattle.listing.specs.Listings.{Told, listOf}
 use Rattle.listing.proofs.ListLaws.{count-most}
@@ -23,17 +22,18 @@ use Rattle.listing.proofs.OrderLaws.{precedes-irreflexive}
 use Rattle.promises.specs.Calls.{Call, History, MayBegin, MayPost, MayList, Run, Happens}
 use Rattle.promises.specs.Calls.Call.{posted, listed}
 use Rattle.promises.specs.Calls.Run.{begun, then-posted, then-listed}
-use Rattle.promises.specs.Accepted.{IsReport, Reported, Known, lastClock}
+use Rattle.promises.specs.Accepted.{IsReport, Reported, Known}
 use Rattle.promises.specs.Accepted.Known.{by-report, by-cancellation}
 use Rattle.promises.specs.Answers.Concerns.{reports, cancels}
 use Rattle.promises.specs.Answers.{Timely, Concerns, Full, PostAnswered}
 use Rattle.promises.specs.Answers.PostAnswered.{outside as by-range, early as by-clock, bad as by-record, test as by-test, no-start as by-start, no-end as by-end, no-target as by-target, ended as by-time, cancelled as by-mark, held as by-correction, again as by-target-marked, full as by-room, report-accepted, cancellation-accepted}
-use Rattle.promises.specs.InForce.{IsListing, listing, ListAnswered}
+use Rattle.promises.specs.InForce.{IsListing, ListAnswered}
+use Rattle.listing.specs.Listings.{listing}
 use Rattle.promises.specs.InForce.ListAnswered.{outside, early, short, whole}
 use Rattle.promises.specs.Demand3.{Demand3}
 use Rattle.promises.proofs.Messages.{reportedPlace, markedPlace, cause-claim, one-identity}
 use Rattle.promises.proofs.Messages.Cause.{report, cancellation}
-use Rattle.promises.proofs.Tracks.{Tracks, claims-report, tracked}
+use Rattle.promises.proofs.Tracks.{claims-report, tracked}
 use Rattle.promises.proofs.Room.{lasting-most}
 use Rattle.promises.proofs.Answering.{answer-cause, cause-answer}
 use Rattle.promises.proofs.Listing.{rows-listed, listed-most, one-listing, list-cause}
@@ -47,7 +47,7 @@ pub may-post : (b : Board) (clock : ℕ) (r : Record) → MayPost b clock r (pos
 may-post b clock r = record { lent = tt; allowed = refl }
 
 pub may-list : (b : Board) (time : ℕ) (buffer : List ℕ) → MayList b time buffer (listOf b time buffer .answer) (listOf b time buffer .count) (listOf b time buffer .buffer)
-may-list b time buffer = record { lent = ([], tt); place = (0, 0); name = 0; allowed = refl }
+may-list b time buffer = record { lent = ([], tt); address = (0, 0); name = 0; allowed = refl }
 
 pub begins-so : {b : Board} → MayBegin b → b ≡ emptyBoard
 begins-so m = m .allowed

@@ -1,5 +1,4 @@
 pub mod Messages
-pub mod Counting
 pub mod Held
 pub mod Tracks
 pub mod Room
@@ -7,6 +6,6 @@ pub mod Answering
 pub mod Listing
 pub mod Histories
 pub mod Contracts
-pub mod Starring
-pub mod Fraud
-pub mod Table
+pub mod StarredLaws
+pub mod FraudLaws
+pub mod FunctionLaws

@@ -1,36 +1,36 @@
 -- The rows that are listed are those that the history has in force, and no other list is so.
 -- Assumes nothing.
 use mathlib.Core.Bool.{Bool, true, false, not}
-use mathlib.Core.List.{List, [], _∷_, _++_, List·Memᴰ, List·Memᴰ·head, List·Memᴰ·tail, List·Memᴰ·cases-cons, Pairwise, Pairwise·of-cons, rel-of-pairwise-cons}
+use mathlib.Core.List.{List, [], _∷_, List·Memᴰ, List·Memᴰ·head, List·Memᴰ·tail, List·Memᴰ·cases-cons, Pairwise, Pairwise·of-cons, rel-of-pairwise-cons}
 use mathlib.Core.Logic.{_⊎_, inl, inr, ⊎-elim}
 use mathlib.Core.Path.{_≡_, refl, sym, ap, subst, _∙_}
 use Prim.Native.Nat.{ℕ, zero, suc, _≤_, _<_, suc-le-suc, zero-le}
 use native.Mathlib.Nat.{not-suc-le-zero, le-of-suc-le-suc}
 use native.Mathlib.Omega.{arith}
-use lib.Dec.{leb, ltb, eqb}
-use lib.ListN.{length, getD, drop}
-use borrow.Author.Tests.{leb-true, ltb-true, ltb-false, le-leb, lt-ltb, le-ltb, eq-eqb, ne-eqb, not-true}
+use lib.Dec.{leb, ltb}
+use lib.ListN.{length, getD}
+use borrow.Author.Tests.{leb-true, ltb-true, ltb-false, le-leb, lt-ltb, not-true}
 use Rattle.lists.specs.Choice.{pick}
 use Rattle.lists.proofs.Choice.{by, both-true, both-three}
-use Rattle.places.specs.Places.{noPlace, emptyPlace}
+use Rattle.places.specs.Places.{noPlace}
 use Rattle.board.specs.Boards.{refusalAt}
 use Rattle.board.specs.declared.Board.{Board}
-use Rattle.places.specs.declared.Identity.{Identity}
 use Rattle.places.specs.declared.Place.{Place}
 use Rattle.board.proofs.Invariant.{board-parts}
 use Rattle.listing.specs.Order.{Before, precedes}
 use Rattle.listing.specs.Rows.{inForce, selected, inserted, sortedAfter, rowsOf}
-use Rattle.listing.specs.Listings.{timeRecord, records, listingOf, Told, listOf}
+use Rattle.listing.specs.Listings.{listingOf, Told, listOf}
 use Rattle.listing.proofs.OrderLaws.{precedes-irreflexive, precedes-transitive}
 use Rattle.listing.proofs.RowLaws.{rows-ordered, rows-most}
 use Rattle.promises.specs.Calls.{History}
-use Rattle.promises.specs.Accepted.{Reported, Cancelled, Known, lastClock}
+use Rattle.promises.specs.Accepted.{lastClock}
 use Rattle.promises.specs.Accepted.Known.{by-report}
-use Rattle.promises.specs.Answers.{Timely}
-use Rattle.promises.specs.InForce.{InForce, IsListing, listing, ListAnswered}
+use Rattle.promises.specs.InForce.{InForce, IsListing, ListAnswered}
+use Rattle.listing.specs.Listings.{listing}
 use Rattle.promises.specs.InForce.ListAnswered.{outside as by-range, early as by-clock, short, whole}
-use Rattle.promises.proofs.Held.{On, ends-some}
-use Rattle.promises.proofs.Tracks.{Stands, Holder, Tracks, stands-later, stands-unnamed, stands-as}
+use Rattle.promises.proofs.Held.{On}
+use Rattle.places.proofs.HeldLaws.{ends-some}
+use Rattle.promises.proofs.Tracks.{Stands, Tracks, stands-later, stands-unnamed, stands-as}
 use Rattle.promises.proofs.Tracks.Stands.{stands-marked, stands-reported}
 use Rattle.promises.proofs.Answering.{Clocked, clocked}
 use Rattle.promises.proofs.Answering.Clocked.{outside, early, timely}

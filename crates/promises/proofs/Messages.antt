@@ -1,11 +1,11 @@
 -- What a message asks of a board, in the paper's words: the causes that no board can change, and what is left to it.
 -- Assumes nothing.
-use mathlib.Core.Bool.{Bool, true, false, not}
-use mathlib.Core.Path.{_≡_, refl, sym, ap, subst, _∙_}
+use mathlib.Core.Bool.{Bool, true, false}
+use mathlib.Core.Path.{_≡_, refl, sym, ap, _∙_}
 use Prim.Native.Nat.{ℕ, _≤_, _<_}
 use native.Mathlib.Omega.{arith}
 use lib.Dec.{leb, eqb}
-use borrow.Author.Tests.{leb-true, leb-false, eqb-true, eqb-false, eq-eqb, ne-eqb, le-leb, lt-leb}
+use borrow.Author.Tests.{leb-true, leb-false, eqb-true, eqb-false}
 use Rattle.lists.proofs.Choice.{by, clash}
 use Rattle.groups.specs.declared.Group.{Group}
 use Rattle.headings.specs.declared.Sequence.{Sequence}
@@ -15,13 +15,13 @@ use Rattle.message.specs.declared.Form.the-variants.{NoForm, Test, Cancellation
 use Rattle.message.specs.declared.Record.{Record}
 use Rattle.message.proofs.Goodness.{good-parts}
 use Rattle.calendar.specs.Gregorian.{never}
-use Rattle.calendar.specs.Instants.{startOf, endOf, targetOf}
+use Rattle.calendar.specs.Instants.{endOf, targetOf}
 use Rattle.calendar.specs.Declared.{IsStart, IsEnd, IsTarget}
-use Rattle.calendar.proofs.CalendarLaws.{start-found, start-bound, start-complete, start-only, start-none, end-found, end-bound, end-complete, end-none, target-found, target-bound, target-complete, target-none}
+use Rattle.calendar.proofs.CalendarLaws.{start-found, start-bound, start-complete, start-only, start-none, never-start, end-found, end-bound, end-complete, end-none, never-end, target-found, target-bound, target-complete, target-none, never-target}
 use Rattle.places.specs.Padded.{paddedOf}
 use Rattle.places.specs.Places.{noPlace}
 use Rattle.places.specs.Claims.{unclaimed, identityOf, reportPlace, targetPlace, ending, cancels as cancelsOf, timed, isTest, startAt, endAt, claimOf}
-use Rattle.places.proofs.ClaimLaws.{ended as board-ended, unended, untargeted, targeted, bad-record, a-test, no-start as unstarted, no-end as unended-claim, a-claim, timed-cancels, timed-reports}
+use Rattle.places.proofs.ClaimReturns.{ended as board-ended, unended, untargeted, targeted, bad-record, a-test, no-start as unstarted, no-end as unended-claim, a-claim, timed-cancels, timed-reports}
 use Rattle.places.specs.declared.Identity.{Identity}
 use Rattle.places.specs.declared.Place.{Place}
 use Rattle.promises.specs.Accepted.{IsReport, IsCancellation}
@@ -136,24 +136,6 @@ claim-cause clock r =
     (λ f. rw f (bad f))
 
 -- Every cause is the definition's claim.
-
-never-start : (clock : ℕ) (g : Group) → ((t : ℕ) → IsStart clock g t → ⊥) → startOf clock g ≡ never
-never-start clock g n =
-    by (eqb (startOf clock g) never) (λ t. eqb-true (startOf clock g) never t)
-    (λ f. let late = eqb-false (startOf clock g) never f in absurd (n (startOf clock g) (start-found clock g (omega (arith, late, start-bound clock g)))))
-
-never-end : (kind start : ℕ) (g : Group) → ((t : ℕ) → IsEnd kind start g t → ⊥) → endOf kind start g ≡ never
-never-end kind start g n =
-    by (eqb (endOf kind start g) never) (λ t. eqb-true (endOf kind start g) never t)
-    (λ f. let late = eqb-false (endOf kind start g) never f in absurd (n (endOf kind start g) (end-found kind start g (omega (arith, late, end-bound kind start g)))))
-
-never-target : (kind end : ℕ) (g : Group) → ((t : ℕ) → IsTarget kind end g t → ⊥) → targetOf kind end g ≡ never
-never-target kind end g n =
-    by (eqb (targetOf kind end g) never) (λ t. eqb-true (targetOf kind end g) never t)
-    (λ f. let late = eqb-false (targetOf kind end g) never f in absurd (n (targetOf kind end g) (target-found kind end g (omega (arith, late, target-bound kind end g)))))
-
-an-instant : (t : ℕ) → t < never → eqb t never ≡ false
-an-instant t h = ne-eqb t never (λ e. absurd (omega (arith, e, h)))
 
 -- an identity by its parts
 identity-is : (r : Record) (s : Sequence) (i : Identity) {start end : ℕ} → i .kind ≡ r .heading .designator .kind → i .area ≡ r .area .indicator

@@ -11,21 +11,21 @@ use lib.ListN.{length, getD}
 use borrow.Author.Tests.{not-true}
 use Rattle.lists.specs.Choice.{pick, either}
 use Rattle.lists.specs.Lists.{allOf}
-use Rattle.lists.proofs.Choice.{by, clash, both-left, both-right, both-true, either-cases}
+use Rattle.lists.proofs.Counting.{no-longer}
+use Rattle.lists.proofs.Choice.{by, clash, both-left, both-right, either-cases}
 use Rattle.places.specs.Places.{sameIdentity, noPlace, emptyPlace}
 use Rattle.board.specs.Boards.{differs, distinct}
 use Rattle.board.specs.Posts.{kept, dropped}
 use Rattle.board.specs.declared.Board.{Board}
 use Rattle.places.specs.declared.Identity.{Identity}
 use Rattle.places.specs.declared.Place.{Place}
-use Rattle.places.proofs.HeldLaws.{same-identity-is, same-identity-refl}
+use Rattle.places.proofs.HeldLaws.{same-identity-refl}
 use Rattle.board.proofs.Invariant.{board-parts, dropped-length}
 use Rattle.promises.specs.Calls.{History}
 use Rattle.promises.specs.Accepted.{Known, lastClock}
 use Rattle.promises.specs.Answers.{Full}
-use Rattle.promises.proofs.Counting.{no-longer}
-use Rattle.promises.proofs.Held.{On, kept-some, on-dropped, dropped-on}
-use Rattle.promises.proofs.Tracks.{Stands, Holder, Tracks, stands-known}
+use Rattle.promises.proofs.Held.{kept-some, on-dropped, dropped-on}
+use Rattle.promises.proofs.Tracks.{Holder, Tracks, stands-known}
 
 -- The identities that are held.
 unfoldable heldOf : List Place → List Identity

@@ -1,21 +1,19 @@
 -- After every history the board holds what the history has accepted and has not ended: by induction over the calls.
 -- Assumes nothing.
-use mathlib.Core.Bool.{true, false, not}
+use mathlib.Core.Bool.{true, false}
 use mathlib.Core.List.{List, [], _∷_}
 use mathlib.Core.Logic.{_⊎_, inl, inr, ⊎-elim}
 use mathlib.Core.Path.{_≡_, refl, sym, ap, subst, _∙_}
 use Prim.Native.Nat.{ℕ, _≤_, _<_}
 use native.Mathlib.Omega.{arith}
-use lib.Dec.{leb, ltb, eqb}
-use lib.ListN.{length, getD}
-use borrow.Author.Tests.{leb-true, leb-false, ltb-false, eqb-true, eqb-false, eq-eqb, ne-eqb}
-use Rattle.lists.specs.Choice.{both}
+use lib.Dec.{leb, eqb}
+use borrow.Author.Tests.{leb-true, leb-false, eqb-true, eqb-false, eq-eqb, ne-eqb}
 use Rattle.lists.specs.Lists.{allOf}
 use Rattle.lists.proofs.Choice.{by, clash}
 use Rattle.lists.proofs.Lists.{all-at}
 use Rattle.message.specs.declared.Record.{Record}
 use Rattle.places.specs.Places.{sameIdentity, noPlace, emptyPlace}
-use Rattle.board.specs.Boards.{inRange, goodBoard, emptyBoard, refusalAt}
+use Rattle.board.specs.Boards.{goodBoard, emptyBoard}
 use Rattle.places.specs.Claims.{claimOf}
 use Rattle.board.specs.Posts.{objection, postOf}
 use Rattle.board.specs.declared.Board.{Board}
@@ -23,8 +21,9 @@ use Rattle.places.specs.declared.Identity.{Identity}
 use Rattle.places.specs.declared.Place.{Place}
 use Rattle.places.proofs.HeldLaws.{same-identity-is, same-identity-refl}
 use Rattle.board.proofs.Invariant.{new-good, post-good}
+use Rattle.board.proofs.RefusalLaws.{unrefused-parts}
 use Rattle.board.proofs.PostLaws.{accepted-parts, refused-unchanged}
-use Rattle.promises.specs.Calls.{Call, History, Run}
+use Rattle.promises.specs.Calls.{History, Run}
 use Rattle.promises.specs.Calls.Call.{posted, listed}
 use Rattle.promises.specs.Calls.Run.{begun, then-posted, then-listed}
 use Rattle.promises.specs.Accepted.{IsReport, IsCancellation, Reported, Cancelled, Known, lastClock}
@@ -181,15 +180,6 @@ later-then q p z n =
     (λ t. let w = rw (m, n, t) at z in absurd (omega (arith, w)))
     (λ f. leb-false (p .correction) (q .correction) f)
 
-pub no-earlier : (b : Board) (clock : ℕ) → refusalAt b clock ≡ 0 → b .clock ≤ clock
-unfolding refusalAt
-no-earlier b clock =
-    by (goodBoard b)
-    (λ g. rw g (by (inRange clock)
-    (λ t. rw t (by (ltb clock (b .clock)) (λ e. rw e (λ z. absurd (omega (arith, z)))) (λ e. rw e (λ z. ltb-false clock (b .clock) e))))
-    (λ f. rw f (λ z. absurd (omega (arith, z))))))
-    (λ g. rw g (λ z. absurd (omega (arith, z))))
-
 cause-lasts : {clock n : ℕ} {r : Record} {p : Place} → Cause clock r n p → n ≡ 0 → clock < p .identity .end
 cause-lasts (bad f) z = absurd (omega (arith, z))
 cause-lasts (test g f) z = absurd (omega (arith, z))
@@ -234,7 +224,7 @@ module _ {h : History} {b : Board} (t : Tracks h b) (clock answer : ℕ) (r : Re
   lasts = cause-lasts (claim-cause clock r) claimed
 
   timely : lastClock h ≤ clock
-  timely = rw (← (t .clock)) (no-earlier b clock (accepted-parts b clock r z .unrefused))
+  timely = rw (← (t .clock)) (unrefused-parts b clock (accepted-parts b clock r z .unrefused) .no-earlier)
 
   stepped : Step (b .places) (postOf b clock r .board .places) clock p
   stepped = step b clock r (t .sound) (omega (arith, lasts)) z

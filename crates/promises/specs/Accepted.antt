@@ -11,7 +11,7 @@ use Rattle.lists.specs.Choice.{pick}
 use Rattle.groups.specs.declared.Group.{Group}
 use Rattle.headings.specs.declared.Sequence.{Sequence}
 use Rattle.message.specs.Records.{good}
-use Rattle.message.specs.declared.Form.the-variants.{Cancellation, Reported as Report}
+use Rattle.message.specs.declared.Form.the-variants.{Cancellation, Reported as reportForm}
 use Rattle.message.specs.declared.Record.{Record}
 use Rattle.calendar.specs.Declared.{IsStart, IsEnd, IsTarget}
 use Rattle.places.specs.Padded.{paddedOf}
@@ -22,7 +22,7 @@ use Rattle.promises.specs.Calls.Call.{posted, listed}
 -- A report posted at a clock. "Identity: type, area, sequence as written, start, end."
 pub record IsReport (clock : ℕ) (r : Record) (i : Identity) (correction : ℕ) : Type 0 where
   pub sound : good r ≡ true
-  pub form : r .form ≡ Report
+  pub form : r .form ≡ reportForm
   pub kind : i .kind ≡ r .heading .designator .kind
   pub area : i .area ≡ r .area .indicator
   pub sequence : i .sequence ≡ paddedOf (r .line .sequence)

@@ -37,9 +37,9 @@ pub record MayPost (b : Board) (clock : ℕ) (message : Record) (answer : ℕ) (
 -- `list(board, time, buffer)` may answer this, count this, and leave the buffer as `after`
 pub record MayList (b : Board) (time : ℕ) (buffer : List ℕ) (answer count : ℕ) (after : List ℕ) : Type 0 where
   pub lent : Lfts 1
-  pub place : ℕ × ℕ
+  pub address : ℕ × ℕ
   pub name : GName
-  pub allowed : list-reads.Learnt lent (b, (time, (slice place name buffer, tt))) (record { answer = answer; count = count }) (b, (time, (slice place name after, tt)))
+  pub allowed : list-reads.Learnt lent (b, (time, (slice address name buffer, tt))) (record { answer = answer; count = count }) (b, (time, (slice address name after, tt)))
 
 -- "From an empty board, over all sequences of calls": each call is made on the board that the last post gave back
 pub data Run : History → Board → Type 0 where

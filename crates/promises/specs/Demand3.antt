@@ -15,7 +15,8 @@ use Rattle.promises.specs.Calls.{Call, History}
 use Rattle.promises.specs.Calls.Call.{posted, listed}
 use Rattle.promises.specs.Accepted.{IsReport, Reported, Known, lastClock}
 use Rattle.promises.specs.Answers.{Timely, Concerns, Full, PostAnswered}
-use Rattle.promises.specs.InForce.{IsListing, listing, ListAnswered}
+use Rattle.promises.specs.InForce.{IsListing, ListAnswered}
+use Rattle.listing.specs.Listings.{listing}
 
 pub record Demand3 (Can : History → Type 0) : Type 0 where
   -- "From an empty board, over all sequences of calls": after every history, every post and every listing gets an answer …

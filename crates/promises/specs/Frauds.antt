@@ -13,7 +13,8 @@ use Rattle.writer.specs.declared.Written.{Written}
 use Rattle.places.specs.declared.Place.{Place}
 use Rattle.promises.specs.Calls.{History, Happens}
 use Rattle.promises.specs.Calls.Call.{posted, listed}
-use Rattle.promises.specs.InForce.{IsListing, listing}
+use Rattle.promises.specs.InForce.{IsListing}
+use Rattle.listing.specs.Listings.{listing}
 use Rattle.promises.specs.Demand2.{Demand2}
 use Rattle.promises.specs.Demand3.{Demand3}
 

@@ -3,7 +3,7 @@
 -- the reply by their kinds, `Learnt` is the contract's `ensures`: three generated names for each function, and nothing else is used of it.
 -- tests/public-functions holds the rows against the code.
 -- Assumes nothing.
-use Rattle.lists.proofs.Determined.{Determines, Settles}
+use Rattle.lists.specs.Determined.{Determines, Settles}
 use Rattle.lists.proofs.both.Kinds as lists-both-kinds
 use Rattle.lists.proofs.both.Reads as lists-both-reads
 use Rattle.lists.proofs.either.Kinds as lists-either-kinds

@@ -9,7 +9,7 @@ use Prim.Native.Nat.{ℕ, _≤_, _<_}
 use lib.ListN.{length, drop}
 use Rattle.places.specs.declared.Place.{Place}
 use Rattle.listing.specs.Order.{Before}
-use Rattle.listing.specs.Listings.{timeRecord, records}
+use Rattle.listing.specs.Listings.{listing}
 use Rattle.promises.specs.Calls.{History}
 use Rattle.promises.specs.Accepted.{Reported, Cancelled, lastClock}
 use Rattle.promises.specs.Answers.{InRange, Timely}
@@ -29,10 +29,6 @@ pub record IsListing (h : History) (time : ℕ) (rows : List Place) : Type 0 whe
   pub those : (p : Place) → List·Memᴰ p rows → InForce h time p
   pub all : (p : Place) → InForce h time p → List·Memᴰ p rows
   pub ordered : Pairwise Before rows
-
--- "Kind 1 comes first", then a record for each row
-abbrev pub listing : ℕ → List Place → List ℕ
-listing time rows = timeRecord time ++ records rows
 
 -- the answer to a listing after the history: its number, its count and its buffer
 pub data ListAnswered (h : History) (time : ℕ) (buffer : List ℕ) : (answer count : ℕ) (after : List ℕ) → Type 0 where

@@ -1,7 +1,7 @@
 -- The public contract of this crate determines its reply: two replies that it allows on the same bytes are equal.
 -- Assumes nothing.
 use Rattle.lists.proofs.Choice.{determined}
-use Rattle.lists.proofs.Determined.{Determines}
+use Rattle.lists.specs.Determined.{Determines}
 use Rattle.reader.proofs.read.Kinds as read-kinds
 use Rattle.reader.proofs.read.Reads as read-reads
 

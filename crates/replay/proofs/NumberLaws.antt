@@ -6,13 +6,12 @@ use mathlib.Core.Path.{_≡_, refl, sym, ap, subst, _∙_}
 use Prim.Native.Nat.{ℕ, suc, _+_, _*_, _%_, _<_, _≤_}
 use native.Mathlib.Numerals.{add-one}
 use native.Mathlib.Omega.{arith}
-use lib.Dec.{ltb, eqb}
+use lib.Dec.{ltb}
 use lib.ListN.{length, drop, getD, drop-of-length-le}
 use lib.Seq.{drop-cons}
 use borrow.Author.Tests.{ltb-true, ltb-false, lt-ltb, le-ltb, eq-eqb, ne-eqb}
 use Rattle.lists.specs.Choice.{pick}
 use Rattle.lists.specs.Lists.{part}
-use Rattle.replay.specs.declared.parsing.Number.{Number}
 use Rattle.replay.specs.Numbers.{greatest, figuresEnd, valueFrom, capped, grownBy, noNumber, aNumber, numberTo, numberAt}
 
 past : (v x : ℕ) → greatest < v → greatest < v * 10 + x % 16

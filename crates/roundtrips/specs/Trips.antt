@@ -17,22 +17,23 @@ use Rattle.reader.proofs.read.Reads as read-reads
 use Rattle.writer.proofs.write.Reads as write-reads
 use Rattle.writer.specs.declared.Written.{Written}
 
+-- a slice with these contents
 abbrev pub slice : ℕ × ℕ → GName → List ℕ → RefT (List ℕ)
-slice place name contents = record { ptr = place; name = name; now = contents }
+slice address name contents = record { ptr = address; name = name; now = contents }
 
 -- `read(bulletin)` may answer this reply
 pub record MayRead (bulletin : List ℕ) (reply : Reply) : Type 0 where
   pub lent : Lfts 1
-  pub place : ℕ × ℕ
+  pub address : ℕ × ℕ
   pub name : GName
-  pub allowed : read-reads.Learnt lent (slice place name bulletin, tt) reply (slice place name bulletin, tt)
+  pub allowed : read-reads.Learnt lent (slice address name bulletin, tt) reply (slice address name bulletin, tt)
 
 -- `write(message, buffer)` may answer w and leave the buffer as `after`
 pub record MayWrite (message : Record) (buffer : List ℕ) (w : Written) (after : List ℕ) : Type 0 where
   pub lent : Lfts 1
-  pub place : ℕ × ℕ
+  pub address : ℕ × ℕ
   pub name : GName
-  pub allowed : write-reads.Learnt lent (message, (slice place name buffer, tt)) w (message, (slice place name after, tt))
+  pub allowed : write-reads.Learnt lent (message, (slice address name buffer, tt)) w (message, (slice address name after, tt))
 
 -- "13 bad record; …; 14 buffer shorter than what would be written. Count 0, buffer untouched. On success … the bytes past the count stay":
 -- the number, the count and the buffer afterwards. 24 is no outcome: no good record's text has over 2,048 bytes (`text-fits`)

@@ -1,7 +1,7 @@
 -- The public contract of this crate settles reply and buffer: two outcomes that it allows on the same arguments are equal.
 -- Assumes nothing.
 use mathlib.Core.Path.{ap}
-use Rattle.lists.proofs.Determined.{Settles}
+use Rattle.lists.specs.Determined.{Settles}
 use Rattle.pens.specs.Pens.{Pen}
 use Rattle.pens.proofs.PenLaws.{puts-same}
 use Rattle.sections.proofs.put_text.Kinds as put-text-kinds

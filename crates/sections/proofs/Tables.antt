@@ -54,8 +54,3 @@ one-of-four word w a b c d n p q r s (inr (inr (inr e))) = ap word e ∙ s
 -- a number that is not below k and not k is not below the next
 pub past : (k : ℕ) {n : ℕ} → k ≤ n → (n ≡ k → ⊥) → k + 1 ≤ n
 past k h f = omega arith
-
--- the way that is left where two ways meet
-pub other-way : {A B : Type 0} → A ⊎ B → (A → ⊥) → B
-other-way (inl a) f = absurd (f a)
-other-way (inr b) f = b

@@ -1,7 +1,7 @@
 -- Each public contract of this crate determines its reply: two replies that it allows on the same arguments are equal.
 -- Assumes nothing.
 use Rattle.lists.proofs.Choice.{determined}
-use Rattle.lists.proofs.Determined.{Determines}
+use Rattle.lists.specs.Determined.{Determines}
 use Rattle.words.proofs.check.Kinds as check-kinds
 use Rattle.words.proofs.check.Reads as check-reads
 use Rattle.words.proofs.word_at.Kinds as word-at-kinds

@@ -1,7 +1,7 @@
 -- The laws of words: what the next word is, what every word is, and that joining words and reading them undo one another.
 -- Assumes nothing.
 use mathlib.Core.Bool.{Bool, true, false}
-use mathlib.Core.List.{List, [], _∷_, _++_, map, append-nil, append-assoc, map-append}
+use mathlib.Core.List.{List, [], _∷_, _++_, map, append-nil, append-assoc}
 use mathlib.Core.Path.{_≡_, refl, ap, sym, _∙_}
 use Prim.Native.Nat.{ℕ, suc, _+_, _-_, _≤_, _<_, zero-le, suc-le-suc}
 use native.Mathlib.Nat.{suc-add, add-suc, add-zero, not-suc-le-zero}
@@ -12,7 +12,7 @@ use lib.Seq.{drop-drop, append-snoc, length-take-le, drop-length, getD-drop}
 use borrow.Author.Tests.{lt-ltb, ltb-true, not-true}
 use Rattle.lists.specs.Lists.{indexOf, indexFrom, allOf, part}
 use Rattle.lists.proofs.Choice.{by, both-left, both-right, both-true}
-use Rattle.lists.proofs.Lists.{all-append, all-map, index-found, index-within, from-within, from-none}
+use Rattle.lists.proofs.Lists.{all-append, index-found, index-within, from-within, from-none}
 use Rattle.words.specs.Bytes.{blank, solid}
 use Rattle.words.specs.declared.Span.{Span}
 use Rattle.words.specs.Words.{Word, ended, scan, wordsAt, wordsIn, spanOf, runOf, solidWord, gap, line}
@@ -161,22 +161,6 @@ unfolding allOf
 words-solid t p h =
     let e : p + length (drop p t) ≡ length t = rw length-drop (omega arith) in
     rw e at (scan-solids p [] (drop p t) refl)
-
--- and so of the words without their places
-pub record Wordy (t : List ℕ) : Type 0 where
-  pub front : List (List ℕ)
-  pub words : wordsIn t ≡ front ++ ([] ∷ [])
-  pub solids : allOf solidWord front ≡ true
-
-pub words-in-solid : (t : List ℕ) → Wordy t
-words-in-solid t =
-    let s : Solids (length t) (wordsAt t 0) = words-solid t 0 zero-le in
-    let f : Word → List ℕ = λ (w : Word). w .bytes in
-    record {
-      front = map f (s .front);
-      words = ap (map f) (s .words) ∙ map-append f (s .front) (record { place = length t; bytes = [] } ∷ []);
-      solids = all-map solidWord f (s .front) ∙ s .solids;
-    }
 
 -- Reading words back.
 

@@ -2,15 +2,10 @@
 use borrow.Author.Needs.{needs}
 use Rattle.coordinates.proofs.same_latitude.Statement.{statement}
 use Rattle.coordinates.proofs.same_latitude.Tie as tie
-use Rattle.coordinates.proofs.same_latitude.Reads as reads
-use Rattle.coordinates.proofs.same_latitude.Lts as lts
-use Rattle.coordinates.proofs.apart_by.Reads as apart-by-reads
 
--- src/lib.rt:86:5
 apart-by-requires : tie.Need-apart-by-requires
 apart-by-requires c κs = search needs
 
--- src/lib.rt:83:1
 returns : tie.Need-returns
 returns c = rw (c .apart-by .ensures)
 

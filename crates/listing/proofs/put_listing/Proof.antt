@@ -7,20 +7,20 @@ use borrow.Author.Needs.{needs}
 use borrow.Rule.Slice.PartMut.{putMid}
 use Rattle.lists.proofs.Sweeps.{length-mapped}
 use Rattle.listing.specs.Holding.{rowsIn}
-use Rattle.listing.specs.Listings.{Lists}
+use Rattle.listing.specs.Listings.{PutsListing}
 use Rattle.listing.proofs.Loops.{lists-none, lists-more, lists-all, lists-at, lists-long}
 use Rattle.listing.proofs.put_listing.Statement.{statement}
 use Rattle.listing.proofs.put_listing.Tie as tie
 
 abbrev Inv-loop : tie.InvT-loop
 Inv-loop out₀ time places count at₀ i₀ out at i =
-    (i ≤ count) × (at ≡ 5 + i * 17) × (length out ≡ length out₀) × (length places ≡ 64) × Lists time (take i places) out₀ at out
+    (i ≤ count) × (at ≡ 5 + i * 17) × (length out ≡ length out₀) × (length places ≡ 64) × PutsListing time (take i places) out₀ at out
 
 abbrev μ-loop : tie.MeasureT-loop
 μ-loop out₀ time places count at₀ i₀ out at i = count - i
 
 -- one record more, at the place behind it
-one-more : (c : tie.After-slice-known3 Inv-loop μ-loop) → Lists (c .before .before .before .before .before .before .before .before .before .before .before .before .before .args .time) (take (c .before .before .before .before .before .before .loop .i + 1) (c .before .before .before .before .before .before .before .before .before .before .before .before .before .args .rows .places))
+one-more : (c : tie.After-slice-known3 Inv-loop μ-loop) → PutsListing (c .before .before .before .before .before .before .before .before .before .before .before .before .before .args .time) (take (c .before .before .before .before .before .before .loop .i + 1) (c .before .before .before .before .before .before .before .before .before .before .before .before .before .args .rows .places))
     (c .before .before .before .before .before .before .before .before .before .put-time .last .0) (c .before .before .before .before .before .before .loop .at + c .before .before .put-record .result)
     (putMid (c .before .before .before .before .before .before .loop .at) (length (c .before .before .before .before .before .before .loop .out) - c .before .before .before .before .before .before .loop .at) (c .before .before .before .before .before .before .loop .out) (c .before .before .put-record .last .0))
 one-more c =
@@ -89,7 +89,7 @@ returns c =
     let at = c .before .loop in
     let rows = c .before .before .before .before .before .before .before .before .args .rows in
     let all : at .i ≡ rows .count = omega (arith, c .loop-test .left, at .inv .0) in
-    let done = subst (λ (n : ℕ). Lists (c .before .before .before .before .before .before .before .before .args .time) (take n (rows .places)) (c .before .before .before .before .put-time .last .0) (at .at) (at .out)) all (at .inv .4) in
+    let done = subst (λ (n : ℕ). PutsListing (c .before .before .before .before .before .before .before .before .args .time) (take n (rows .places)) (c .before .before .before .before .put-time .last .0) (at .at) (at .out)) all (at .inv .4) in
     lists-all (rowsIn rows) (c .before .before .before .before .put-time .ensures) (omega (arith, c .before .before .before .before .before .before .before .before .pre)) done
 
 pub put-listing-spec : {M : Type 1} → statement M

@@ -1,35 +1,25 @@
+-- `good_area` meets its contract. Assumes nothing.
 use borrow.Author.Needs.{needs}
 use Rattle.names.specs.Names.{closingWords}
 use Rattle.message.specs.Records.{goodArea}
 use Rattle.message.proofs.good_area.Statement.{statement}
 use Rattle.message.proofs.good_area.Tie as tie
-use Rattle.message.proofs.good_area.Reads as reads
-use Rattle.message.proofs.good_area.Lts as lts
-use Rattle.headings.proofs.four_letters.Reads as four-letters-reads
-use Rattle.lists.proofs.both.Reads as both-reads
-use Rattle.message.proofs.naming.good.Reads as good-reads
 
--- src/lib.rt:205:9
 both-requires : tie.Need-both-requires
 both-requires c κs = search needs
 
--- src/lib.rt:206:10
 four-letters-requires : tie.Need-four-letters-requires
 four-letters-requires c κs = search needs
 
--- src/lib.rt:206:42
 good-requires : tie.Need-good-requires
 good-requires c κs = search needs
 
--- src/lib.rt:206:37
 both-requires-2 : tie.Need-both-requires-2
 both-requires-2 c κs = search needs
 
--- src/lib.rt:206:5
 both-requires-3 : tie.Need-both-requires-3
 both-requires-3 c κs = search needs
 
--- src/lib.rt:201:1
 returns : tie.Need-returns
 unfolding goodArea closingWords
 returns c =

@@ -1,64 +1,46 @@
+-- `good_form` meets its contract. Assumes nothing.
 use borrow.Author.Needs.{needs}
 use Rattle.message.specs.Records.{goodForm}
 use Rattle.message.proofs.good_form.Statement.{statement}
 use Rattle.message.proofs.good_form.Tie as tie
-use Rattle.message.proofs.good_form.Reads as reads
-use Rattle.message.proofs.good_form.Lts as lts
-use Rattle.lists.proofs.both.Reads as both-reads
-use Rattle.message.proofs.good_cancellation.Reads as good-cancellation-reads
-use Rattle.message.proofs.reporting.good.Reads as good-reads
-use Rattle.message.proofs.reporting.is_empty.Reads as is-empty-reads
 
--- src/lib.rt:241:25
 enum-told : tie.Need-enum-told
 enum-told c = search needs
 
--- src/lib.rt:242:20
 enum-known-form : tie.Need-enum-known-form
 enum-known-form c = search needs
 
--- src/lib.rt:242:31
 both-requires : tie.Need-both-requires
 both-requires c κs = search needs
 
--- src/lib.rt:242:53
 is-empty-requires : tie.Need-is-empty-requires
 is-empty-requires c κs = search needs
 
--- src/lib.rt:242:26
 both-requires-2 : tie.Need-both-requires-2
 both-requires-2 c κs = search needs
 
--- src/lib.rt:243:28
 enum-known-form-2 : tie.Need-enum-known-form-2
 enum-known-form-2 c = search needs
 
--- src/lib.rt:243:45
 good-cancellation-requires : tie.Need-good-cancellation-requires
 good-cancellation-requires c κs = search needs
 
--- src/lib.rt:243:76
 is-empty-requires-2 : tie.Need-is-empty-requires-2
 is-empty-requires-2 c κs = search needs
 
--- src/lib.rt:243:40
 both-requires-3 : tie.Need-both-requires-3
 both-requires-3 c κs = search needs
 
--- src/lib.rt:244:27
 enum-told-2 : tie.Need-enum-told-2
 enum-told-2 c = search needs
 
--- src/lib.rt:244:27
 good-requires : tie.Need-good-requires
 good-requires c κs = search needs
 
--- src/lib.rt:237:1
 returns : tie.Need-returns
 unfolding goodForm
 returns c = rw (c .enum-told .given .1)
 
--- src/lib.rt:237:1
 returns-2 : tie.Need-returns-2
 unfolding goodForm
 returns-2 c =
@@ -69,7 +51,6 @@ returns-2 c =
       c .before .before .both .ensures,
     )
 
--- src/lib.rt:237:1
 returns-3 : tie.Need-returns-3
 unfolding goodForm
 returns-3 c =
@@ -80,7 +61,6 @@ returns-3 c =
       c .before .before .good-cancellation .ensures,
     )
 
--- src/lib.rt:237:1
 returns-4 : tie.Need-returns-4
 unfolding goodForm
 returns-4 c =

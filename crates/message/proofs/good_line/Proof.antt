@@ -1,43 +1,30 @@
+-- `good_line` meets its contract. Assumes nothing.
 use borrow.Author.Needs.{needs}
 use Rattle.message.specs.Records.{goodLine}
 use Rattle.message.proofs.good_line.Statement.{statement}
 use Rattle.message.proofs.good_line.Tie as tie
-use Rattle.message.proofs.good_line.Reads as reads
-use Rattle.message.proofs.good_line.Lts as lts
-use Rattle.groups.proofs.good_period.Reads as good-period-reads
-use Rattle.headings.proofs.four_letters.Reads as four-letters-reads
-use Rattle.headings.proofs.good_sequence.Reads as good-sequence-reads
-use Rattle.lists.proofs.both.Reads as both-reads
 
--- src/lib.rt:197:23
 good-period-requires : tie.Need-good-period-requires
 good-period-requires c κs = search needs
 
--- src/lib.rt:197:43
 four-letters-requires : tie.Need-four-letters-requires
 four-letters-requires c κs = search needs
 
--- src/lib.rt:197:9
 both-requires : tie.Need-both-requires
 both-requires c κs = search needs
 
--- src/lib.rt:198:10
 four-letters-requires-2 : tie.Need-four-letters-requires-2
 four-letters-requires-2 c κs = search needs
 
--- src/lib.rt:198:37
 good-sequence-requires : tie.Need-good-sequence-requires
 good-sequence-requires c κs = search needs
 
--- src/lib.rt:198:32
 both-requires-2 : tie.Need-both-requires-2
 both-requires-2 c κs = search needs
 
--- src/lib.rt:198:5
 both-requires-3 : tie.Need-both-requires-3
 both-requires-3 c κs = search needs
 
--- src/lib.rt:192:1
 returns : tie.Need-returns
 unfolding goodLine
 returns c =

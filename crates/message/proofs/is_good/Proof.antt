@@ -1,44 +1,30 @@
+-- `is_good` meets its contract. Assumes nothing.
 use borrow.Author.Needs.{needs}
 use Rattle.message.specs.Records.{good}
 use Rattle.message.proofs.is_good.Statement.{statement}
 use Rattle.message.proofs.is_good.Tie as tie
-use Rattle.message.proofs.is_good.Reads as reads
-use Rattle.message.proofs.is_good.Lts as lts
-use Rattle.lists.proofs.both.Reads as both-reads
-use Rattle.message.proofs.good_area.Reads as good-area-reads
-use Rattle.message.proofs.good_form.Reads as good-form-reads
-use Rattle.message.proofs.good_heading.Reads as good-heading-reads
-use Rattle.message.proofs.good_line.Reads as good-line-reads
 
--- src/lib.rt:258:9
 good-form-requires : tie.Need-good-form-requires
 good-form-requires c κs = search needs
 
--- src/lib.rt:259:10
 good-heading-requires : tie.Need-good-heading-requires
 good-heading-requires c κs = search needs
 
--- src/lib.rt:259:38
 good-line-requires : tie.Need-good-line-requires
 good-line-requires c κs = search needs
 
--- src/lib.rt:259:60
 good-area-requires : tie.Need-good-area-requires
 good-area-requires c κs = search needs
 
--- src/lib.rt:259:55
 both-requires : tie.Need-both-requires
 both-requires c κs = search needs
 
--- src/lib.rt:259:33
 both-requires-2 : tie.Need-both-requires-2
 both-requires-2 c κs = search needs
 
--- src/lib.rt:259:5
 both-requires-3 : tie.Need-both-requires-3
 both-requires-3 c κs = search needs
 
--- src/lib.rt:249:1
 returns : tie.Need-returns
 unfolding good
 returns c =

@@ -1,3 +1,4 @@
+-- `locating::closing_point` meets its contract. Assumes nothing.
 use Prim.Native.Nat.{_-_, _≤_}
 use mathlib.Core.Path.{_≡_, refl, sym, _∙_}
 use native.Mathlib.Omega.{arith}
@@ -9,9 +10,6 @@ use Rattle.coordinates.specs.Points.{samePoint, noPoint}
 use Rattle.message.specs.Locations.{closingPoint}
 use Rattle.message.proofs.locating.closing_point.Statement.{statement}
 use Rattle.message.proofs.locating.closing_point.Tie as tie
-use Rattle.message.proofs.locating.closing_point.Reads as reads
-use Rattle.message.proofs.locating.closing_point.Lts as lts
-use Rattle.coordinates.proofs.same_point.Reads as same-point-reads
 
 abbrev Inv-loop : tie.InvT-loop
 Inv-loop points first i₀ i = (length points ≡ 7) × (i ≤ 7) × (closingPoint points ≡ indexFrom (samePoint (getD points 0 noPoint)) i points)
@@ -19,42 +17,33 @@ Inv-loop points first i₀ i = (length points ≡ 7) × (i ≤ 7) × (closingPoi
 abbrev μ-loop : tie.MeasureT-loop
 μ-loop points first i₀ i = 7 - i
 
--- src/locating.rt:116:17
 array-copy-out-first : tie.Need-array-copy-out-first Inv-loop μ-loop
 array-copy-out-first c = search needs
 
--- src/locating.rt:118:5
 loop-holds : tie.Need-loop-holds Inv-loop μ-loop
 loop-holds c = (search needs, omega arith, refl)
 
--- src/locating.rt:119:30
 mul-same-point : tie.Need-mul-same-point Inv-loop μ-loop
 mul-same-point c = omega arith
 
--- src/locating.rt:119:30
 array-copy-out-same-point : tie.Need-array-copy-out-same-point Inv-loop μ-loop
 array-copy-out-same-point c = omega arith
 
--- src/locating.rt:119:12
 same-point-requires : tie.Need-same-point-requires Inv-loop μ-loop
 same-point-requires c κs = search needs
 
--- src/locating.rt:120:13
 returns : tie.Need-returns Inv-loop μ-loop
 returns c =
     sym
     (c .before .before .before .before .loop .inv .2
     ∙ from-here (samePoint (getD (c .before .before .before .before .before .before .args .t1) 0 noPoint)) (c .before .before .before .before .before .before .args .t1) (c .before .before .before .before .loop .i) noPoint (omega arith) (sym (c .before .same-point .ensures) ∙ c .if1 .taken))
 
--- src/locating.rt:122:9
 add-i : tie.Need-add-i Inv-loop μ-loop
 add-i c = omega arith
 
--- src/locating.rt:118:5
 loop-less : tie.Need-loop-less Inv-loop μ-loop
 loop-less c = omega arith
 
--- src/locating.rt:118:5
 loop-again : tie.Need-loop-again Inv-loop μ-loop
 loop-again c = (
   search needs,
@@ -63,7 +52,6 @@ loop-again c = (
       ∙ from-past (samePoint (getD (c .before .before .before .before .before .before .args .t1) 0 noPoint)) (c .before .before .before .before .before .before .args .t1) (c .before .before .before .before .loop .i) noPoint (omega arith) (sym (c .before .same-point .ensures) ∙ c .if1 .left),
 )
 
--- src/locating.rt:113:1
 returns-2 : tie.Need-returns-2 Inv-loop μ-loop
 returns-2 c = sym (c .before .loop .inv .2 ∙ from-none (samePoint (getD (c .before .before .before .args .t1) 0 noPoint)) (c .before .before .before .args .t1) (c .before .loop .i) (omega arith))
 

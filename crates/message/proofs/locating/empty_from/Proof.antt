@@ -1,4 +1,5 @@
-use Prim.Native.Nat.{_-_, _≤_}
+-- `locating::empty_from` meets its contract. Assumes nothing.
+use Prim.Native.Nat.{_-_}
 use mathlib.Core.Path.{_≡_, refl, sym, _∙_}
 use native.Mathlib.Omega.{arith}
 use borrow.Author.Needs.{needs}
@@ -9,9 +10,6 @@ use Rattle.lists.proofs.Lists.{all-past, all-stop, all-end}
 use Rattle.coordinates.specs.Points.{emptyPoint, noPoint}
 use Rattle.message.proofs.locating.empty_from.Statement.{statement}
 use Rattle.message.proofs.locating.empty_from.Tie as tie
-use Rattle.message.proofs.locating.empty_from.Reads as reads
-use Rattle.message.proofs.locating.empty_from.Lts as lts
-use Rattle.coordinates.proofs.empty_point.Reads as empty-point-reads
 
 abbrev Inv-loop : tie.InvT-loop
 Inv-loop start points i₀ i = (length points ≡ 7) × (allOf emptyPoint (drop start points) ≡ allOf emptyPoint (drop i points))
@@ -19,39 +17,30 @@ Inv-loop start points i₀ i = (length points ≡ 7) × (allOf emptyPoint (drop 
 abbrev μ-loop : tie.MeasureT-loop
 μ-loop start points i₀ i = 7 - i
 
--- src/locating.rt:88:5
 loop-holds : tie.Need-loop-holds Inv-loop μ-loop
 loop-holds c = (search needs, refl)
 
--- src/locating.rt:89:25
 mul-empty-point : tie.Need-mul-empty-point Inv-loop μ-loop
 mul-empty-point c = omega arith
 
--- src/locating.rt:89:25
 array-copy-out-empty-point : tie.Need-array-copy-out-empty-point Inv-loop μ-loop
 array-copy-out-empty-point c = omega arith
 
--- src/locating.rt:89:13
 empty-point-requires : tie.Need-empty-point-requires Inv-loop μ-loop
 empty-point-requires c κs = search needs
 
--- src/locating.rt:90:13
 returns : tie.Need-returns Inv-loop μ-loop
 returns c = sym (c .before .before .before .before .loop .inv .1 ∙ all-stop emptyPoint (c .before .before .before .before .before .args .t1) (c .before .before .before .before .loop .i) noPoint (omega arith) (sym (c .before .empty-point .ensures) ∙ not-true _ (c .if1 .taken)))
 
--- src/locating.rt:92:9
 add-i : tie.Need-add-i Inv-loop μ-loop
 add-i c = omega arith
 
--- src/locating.rt:88:5
 loop-less : tie.Need-loop-less Inv-loop μ-loop
 loop-less c = omega arith
 
--- src/locating.rt:88:5
 loop-again : tie.Need-loop-again Inv-loop μ-loop
 loop-again c = (search needs, c .before .before .before .before .loop .inv .1 ∙ all-past emptyPoint (c .before .before .before .before .before .args .t1) (c .before .before .before .before .loop .i) noPoint (omega arith) (sym (c .before .empty-point .ensures) ∙ not-false _ (c .if1 .left)))
 
--- src/locating.rt:84:1
 returns-2 : tie.Need-returns-2 Inv-loop μ-loop
 returns-2 c = sym (c .before .loop .inv .1 ∙ all-end emptyPoint (c .before .before .args .t1) (c .before .loop .i) (omega arith))
 

@@ -1,66 +1,48 @@
+-- `locating::good` meets its contract. Assumes nothing.
 use borrow.Author.Needs.{needs}
 use Rattle.message.specs.Locations.{goodExtent}
 use Rattle.message.proofs.locating.good.Statement.{statement}
 use Rattle.message.proofs.locating.good.Tie as tie
-use Rattle.message.proofs.locating.good.Reads as reads
-use Rattle.message.proofs.locating.good.Lts as lts
-use Rattle.lists.proofs.both.Reads as both-reads
-use Rattle.message.proofs.locating.good_bound.Reads as good-bound-reads
-use Rattle.message.proofs.locating.good_outline.Reads as good-outline-reads
-use Rattle.message.proofs.locating.no_points.Reads as no-points-reads
 
--- src/locating.rt:154:30
 enum-told : tie.Need-enum-told
 enum-told c = search needs
 
--- src/locating.rt:155:27
 enum-known-location : tie.Need-enum-known-location
 enum-known-location c = search needs
 
--- src/locating.rt:155:38
 good-bound-requires : tie.Need-good-bound-requires
 good-bound-requires c κs = search needs
 
--- src/locating.rt:155:53
 no-points-requires : tie.Need-no-points-requires
 no-points-requires c κs = search needs
 
--- src/locating.rt:155:33
 both-requires : tie.Need-both-requires
 both-requires c κs = search needs
 
--- src/locating.rt:156:27
 enum-known-location-2 : tie.Need-enum-known-location-2
 enum-known-location-2 c = search needs
 
--- src/locating.rt:156:33
 good-outline-requires : tie.Need-good-outline-requires
 good-outline-requires c κs = search needs
 
--- src/locating.rt:157:29
 enum-told-2 : tie.Need-enum-told-2
 enum-told-2 c = search needs
 
--- src/locating.rt:157:29
 no-points-requires-2 : tie.Need-no-points-requires-2
 no-points-requires-2 c κs = search needs
 
--- src/locating.rt:148:1
 returns : tie.Need-returns
 unfolding goodExtent
 returns c = rw (c .enum-told .given .1)
 
--- src/locating.rt:148:1
 returns-2 : tie.Need-returns-2
 unfolding goodExtent
 returns-2 c = rw (c .before .before .before .before .location .given .1, c .both .ensures, c .before .no-points .ensures, c .before .before .good-bound .ensures)
 
--- src/locating.rt:148:1
 returns-3 : tie.Need-returns-3
 unfolding goodExtent
 returns-3 c = rw (c .before .before .location2 .given .1, c .good-outline .ensures)
 
--- src/locating.rt:148:1
 returns-4 : tie.Need-returns-4
 unfolding goodExtent
 returns-4 c = rw (c .before .enum-told2 .given .1, c .no-points2 .ensures)

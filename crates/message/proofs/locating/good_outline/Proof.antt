@@ -1,3 +1,4 @@
+-- `locating::good_outline` meets its contract. Assumes nothing.
 use borrow.Author.Needs.{needs}
 use mathlib.Core.Path.{_≡_}
 use borrow.Author.Tests.{lt-leb, le-leb}
@@ -5,48 +6,33 @@ use lib.ListN.{length}
 use Rattle.message.specs.Locations.{goodOutline}
 use Rattle.message.proofs.locating.good_outline.Statement.{statement}
 use Rattle.message.proofs.locating.good_outline.Tie as tie
-use Rattle.message.proofs.locating.good_outline.Reads as reads
-use Rattle.message.proofs.locating.good_outline.Lts as lts
-use Rattle.lists.proofs.both.Reads as both-reads
-use Rattle.message.proofs.locating.closing_point.Reads as closing-point-reads
-use Rattle.message.proofs.locating.empty_from.Reads as empty-from-reads
-use Rattle.message.proofs.locating.good_until.Reads as good-until-reads
 
--- src/locating.rt:137:9
 returns : tie.Need-returns
 unfolding goodOutline
 returns c = rw (lt-leb 4 (c .before .args .n) (c .if1 .taken))
 
--- src/locating.rt:140:9
 returns-2 : tie.Need-returns-2
 unfolding goodOutline
 returns-2 c = rw (le-leb 4 (c .before .before .args .n) (c .before .if1 .left), lt-leb (c .before .before .args .n) 7 (c .if2 .taken))
 
--- src/locating.rt:143:9
 good-until-requires : tie.Need-good-until-requires
 good-until-requires c κs = search needs
 
--- src/locating.rt:144:18
 closing-point-requires : tie.Need-closing-point-requires
 closing-point-requires c κs = search needs
 
--- src/locating.rt:144:43
 sub-closed : tie.Need-sub-closed
 sub-closed c = search needs
 
--- src/locating.rt:145:32
 empty-from-requires : tie.Need-empty-from-requires
 empty-from-requires c κs = search needs
 
--- src/locating.rt:145:19
 both-requires : tie.Need-both-requires
 both-requires c κs = search needs
 
--- src/locating.rt:145:5
 both-requires-2 : tie.Need-both-requires-2
 both-requires-2 c κs = search needs
 
--- src/locating.rt:133:1
 returns-3 : tie.Need-returns-3
 unfolding goodOutline
 returns-3 c =

@@ -1,3 +1,4 @@
+-- `locating::good_until` meets its contract. Assumes nothing.
 use mathlib.Core.List.{List}
 use Prim.Native.Nat.{ℕ, _-_, _≤_, _<_}
 use mathlib.Core.Path.{_≡_, refl, sym, _∙_}
@@ -12,9 +13,6 @@ use Rattle.coordinates.specs.Points.{goodPoint, noPoint}
 use Rattle.coordinates.specs.declared.Point.{Point}
 use Rattle.message.proofs.locating.good_until.Statement.{statement}
 use Rattle.message.proofs.locating.good_until.Tie as tie
-use Rattle.message.proofs.locating.good_until.Reads as reads
-use Rattle.message.proofs.locating.good_until.Lts as lts
-use Rattle.coordinates.proofs.good_point.Reads as good-point-reads
 
 -- the point looked at is the one at that place of the first n
 seen : (n : ℕ) (points : List Point) (i : ℕ) → n ≤ length points → i < n → (i < length (take n points)) × (getD (take n points) i noPoint ≡ getD points i noPoint)
@@ -26,37 +24,29 @@ Inv-loop n points i₀ i = (length points ≡ 7) × (i ≤ n) × (allOf goodPoin
 abbrev μ-loop : tie.MeasureT-loop
 μ-loop n points i₀ i = n - i
 
--- src/locating.rt:103:5
 loop-holds : tie.Need-loop-holds Inv-loop μ-loop
 loop-holds c = (search needs, omega arith, refl)
 
--- src/locating.rt:104:24
 mul-good-point : tie.Need-mul-good-point Inv-loop μ-loop
 mul-good-point c = omega arith
 
--- src/locating.rt:104:24
 array-copy-out-good-point : tie.Need-array-copy-out-good-point Inv-loop μ-loop
 array-copy-out-good-point c = omega arith
 
--- src/locating.rt:104:13
 good-point-requires : tie.Need-good-point-requires Inv-loop μ-loop
 good-point-requires c κs = search needs
 
--- src/locating.rt:105:13
 returns : tie.Need-returns Inv-loop μ-loop
 returns c =
     let at = seen (c .before .before .before .before .before .args .n) (c .before .before .before .before .before .args .t1) (c .before .before .before .before .loop .i) (omega arith) (omega arith) in
     sym (c .before .before .before .before .loop .inv .2 ∙ all-stop goodPoint (take (c .before .before .before .before .before .args .n) (c .before .before .before .before .before .args .t1)) (c .before .before .before .before .loop .i) noPoint (at .0) (rw (at .1) (sym (c .before .good-point .ensures) ∙ not-true _ (c .if1 .taken))))
 
--- src/locating.rt:107:9
 add-i : tie.Need-add-i Inv-loop μ-loop
 add-i c = omega arith
 
--- src/locating.rt:103:5
 loop-less : tie.Need-loop-less Inv-loop μ-loop
 loop-less c = omega arith
 
--- src/locating.rt:103:5
 loop-again : tie.Need-loop-again Inv-loop μ-loop
 loop-again c =
     let at = seen (c .before .before .before .before .before .args .n) (c .before .before .before .before .before .args .t1) (c .before .before .before .before .loop .i) (omega arith) (omega arith) in (
@@ -65,7 +55,6 @@ loop-again c =
       c .before .before .before .before .loop .inv .2 ∙ all-past goodPoint (take (c .before .before .before .before .before .args .n) (c .before .before .before .before .before .args .t1)) (c .before .before .before .before .loop .i) noPoint (at .0) (rw (at .1) (sym (c .before .good-point .ensures) ∙ not-false _ (c .if1 .left))),
     )
 
--- src/locating.rt:98:1
 returns-2 : tie.Need-returns-2 Inv-loop μ-loop
 returns-2 c =
     let long : length (take (c .before .before .args .n) (c .before .before .args .t1)) ≡ c .before .before .args .n = length-take-le (c .before .before .args .n) (c .before .before .args .t1) (omega arith) in

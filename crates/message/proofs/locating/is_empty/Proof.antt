@@ -1,47 +1,36 @@
+-- `locating::is_empty` meets its contract. Assumes nothing.
 use borrow.Author.Needs.{needs}
 use Rattle.message.specs.Locations.{emptyExtent}
 use Rattle.message.proofs.locating.is_empty.Statement.{statement}
 use Rattle.message.proofs.locating.is_empty.Tie as tie
-use Rattle.message.proofs.locating.is_empty.Reads as reads
-use Rattle.message.proofs.locating.is_empty.Lts as lts
-use Rattle.message.proofs.locating.no_points.Reads as no-points-reads
 
--- src/locating.rt:167:30
 enum-told : tie.Need-enum-told
 enum-told c = search needs
 
--- src/locating.rt:167:30
 no-points-requires : tie.Need-no-points-requires
 no-points-requires c κs = search needs
 
--- src/locating.rt:168:33
 enum-told-2 : tie.Need-enum-told-2
 enum-told-2 c = search needs
 
--- src/locating.rt:169:33
 enum-told-3 : tie.Need-enum-told-3
 enum-told-3 c = search needs
 
--- src/locating.rt:170:29
 enum-told-4 : tie.Need-enum-told-4
 enum-told-4 c = search needs
 
--- src/locating.rt:161:1
 returns : tie.Need-returns
 unfolding emptyExtent
 returns c = rw (c .before .enum-told .given .1, c .no-points .ensures)
 
--- src/locating.rt:161:1
 returns-2 : tie.Need-returns-2
 unfolding emptyExtent
 returns-2 c = rw (c .enum-told2 .given .1)
 
--- src/locating.rt:161:1
 returns-3 : tie.Need-returns-3
 unfolding emptyExtent
 returns-3 c = rw (c .enum-told3 .given .1)
 
--- src/locating.rt:161:1
 returns-4 : tie.Need-returns-4
 unfolding emptyExtent
 returns-4 c = rw (c .enum-told4 .given .1)

@@ -1,3 +1,4 @@
+-- `naming::all_zero` meets its contract. Assumes nothing.
 use Prim.Native.Nat.{_-_}
 use mathlib.Core.Path.{_≡_, refl, sym, _∙_}
 use native.Mathlib.Omega.{arith}
@@ -8,8 +9,6 @@ use Rattle.lists.proofs.Lists.{all-past, all-stop, all-end}
 use Rattle.message.specs.Names.{zeroByte}
 use Rattle.message.proofs.naming.all_zero.Statement.{statement}
 use Rattle.message.proofs.naming.all_zero.Tie as tie
-use Rattle.message.proofs.naming.all_zero.Reads as reads
-use Rattle.message.proofs.naming.all_zero.Lts as lts
 
 abbrev Inv-loop : tie.InvT-loop
 Inv-loop b i₀ i = allOf zeroByte b ≡ allOf zeroByte (drop i b)
@@ -17,31 +16,24 @@ Inv-loop b i₀ i = allOf zeroByte b ≡ allOf zeroByte (drop i b)
 abbrev μ-loop : tie.MeasureT-loop
 μ-loop b i₀ i = length b - i
 
--- src/naming.rt:24:5
 loop-holds : tie.Need-loop-holds Inv-loop μ-loop
 loop-holds c = refl
 
--- src/naming.rt:25:12
 shared-slice-read-if1 : tie.Need-shared-slice-read-if1 Inv-loop μ-loop
 shared-slice-read-if1 c = omega arith
 
--- src/naming.rt:26:13
 returns : tie.Need-returns Inv-loop μ-loop
 returns c = sym (c .before .before .before .loop .inv ∙ all-stop zeroByte (c .before .before .before .before .args .b .now) (c .before .before .before .loop .i) 0 (omega arith) (ne-eqb _ 0 (c .if1 .taken)))
 
--- src/naming.rt:28:9
 add-i : tie.Need-add-i Inv-loop μ-loop
 add-i c = omega arith
 
--- src/naming.rt:24:5
 loop-less : tie.Need-loop-less Inv-loop μ-loop
 loop-less c = omega arith
 
--- src/naming.rt:24:5
 loop-again : tie.Need-loop-again Inv-loop μ-loop
 loop-again c = c .before .before .before .loop .inv ∙ all-past zeroByte (c .before .before .before .before .args .b .now) (c .before .before .before .loop .i) 0 (omega arith) (eq-eqb _ 0 (c .if1 .left))
 
--- src/naming.rt:20:1
 returns-2 : tie.Need-returns-2 Inv-loop μ-loop
 returns-2 c = sym (c .before .loop .inv ∙ all-end zeroByte (c .before .before .args .b .now) (c .before .loop .i) (c .loop-test .left))
 

@@ -1,3 +1,4 @@
+-- `naming::good` meets its contract. Assumes nothing.
 use borrow.Author.Needs.{needs}
 use mathlib.Core.Path.{_≡_}
 use borrow.Author.Tests.{lt-leb, le-leb}
@@ -6,29 +7,21 @@ use lib.ListN.{length}
 use Rattle.message.specs.Names.{goodName}
 use Rattle.message.proofs.naming.good.Statement.{statement}
 use Rattle.message.proofs.naming.good.Tie as tie
-use Rattle.message.proofs.naming.good.Reads as reads
-use Rattle.message.proofs.naming.good.Lts as lts
-use Rattle.message.proofs.naming.names_and_zeros.Reads as names-and-zeros-reads
 
--- src/naming.rt:51:9
 returns : tie.Need-returns
 unfolding goodName
 returns c = rw (lt-leb 1 (c .before .args .n .count) (c .if1 .taken))
 
--- src/naming.rt:54:9
 returns-2 : tie.Need-returns-2
 unfolding goodName
 returns-2 c = rw (le-leb 1 (c .before .before .args .n .count) (c .before .if1 .left), lt-leb (c .before .before .args .n .count) (c .before .before .args .limit) (c .if2 .taken))
 
--- src/naming.rt:57:21
 slice-aggregate-names-and-zeros : tie.Need-slice-aggregate-names-and-zeros
 slice-aggregate-names-and-zeros c = search needs
 
--- src/naming.rt:57:5
 names-and-zeros-requires : tie.Need-names-and-zeros-requires
 names-and-zeros-requires c κs = let long : length (c .before .before .before .before .args .n .bytes) ≡ 50 = search needs in omega arith
 
--- src/naming.rt:45:1
 returns-3 : tie.Need-returns-3
 unfolding goodName
 returns-3 c =

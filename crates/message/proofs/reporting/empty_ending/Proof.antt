@@ -1,42 +1,33 @@
+-- `reporting::empty_ending` meets its contract. Assumes nothing.
 use borrow.Author.Needs.{needs}
 use Rattle.message.specs.Reports.{emptyEnding}
 use Rattle.message.proofs.reporting.empty_ending.Statement.{statement}
 use Rattle.message.proofs.reporting.empty_ending.Tie as tie
-use Rattle.message.proofs.reporting.empty_ending.Reads as reads
-use Rattle.message.proofs.reporting.empty_ending.Lts as lts
 
--- src/reporting.rt:126:29
 enum-told : tie.Need-enum-told
 enum-told c = search needs
 
--- src/reporting.rt:127:36
 enum-told-2 : tie.Need-enum-told-2
 enum-told-2 c = search needs
 
--- src/reporting.rt:128:34
 enum-told-3 : tie.Need-enum-told-3
 enum-told-3 c = search needs
 
--- src/reporting.rt:129:32
 enum-told-4 : tie.Need-enum-told-4
 enum-told-4 c = search needs
 
--- src/reporting.rt:122:1
 returns : tie.Need-returns
 unfolding emptyEnding
 returns c = rw (c .enum-told .given .1)
 
--- src/reporting.rt:122:1
 returns-2 : tie.Need-returns-2
 unfolding emptyEnding
 returns-2 c = rw (c .enum-told2 .given .1)
 
--- src/reporting.rt:122:1
 returns-3 : tie.Need-returns-3
 unfolding emptyEnding
 returns-3 c = rw (c .enum-told3 .given .1)
 
--- src/reporting.rt:122:1
 returns-4 : tie.Need-returns-4
 unfolding emptyEnding
 returns-4 c = rw (c .enum-told4 .given .1)

@@ -1,25 +1,19 @@
+-- `reporting::empty_observation` meets its contract. Assumes nothing.
 use borrow.Author.Needs.{needs}
 use Rattle.message.specs.Reports.{emptyObservation}
 use Rattle.message.proofs.reporting.empty_observation.Statement.{statement}
 use Rattle.message.proofs.reporting.empty_observation.Tie as tie
-use Rattle.message.proofs.reporting.empty_observation.Reads as reads
-use Rattle.message.proofs.reporting.empty_observation.Lts as lts
-use Rattle.lists.proofs.both.Reads as both-reads
 
--- src/reporting.rt:97:9
 returns : tie.Need-returns
 unfolding emptyObservation
 returns c = rw (c .if1 .taken)
 
--- src/reporting.rt:99:23
 both-requires : tie.Need-both-requires
 both-requires c κs = search needs
 
--- src/reporting.rt:99:5
 both-requires-2 : tie.Need-both-requires-2
 both-requires-2 c κs = search needs
 
--- src/reporting.rt:92:1
 returns-2 : tie.Need-returns-2
 unfolding emptyObservation
 returns-2 c = rw (c .both2 .ensures, c .before .both .ensures, c .before .before .before .before .before .if1 .left)

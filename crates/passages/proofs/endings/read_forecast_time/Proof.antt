@@ -9,7 +9,7 @@ use Rattle.grammar.specs.Steps.{step}
 use Rattle.passages.specs.Endings.{Forecasts}
 use Rattle.passages.specs.Going.{Goes, wordFrom}
 use Rattle.passages.proofs.Chains.{on, off}
-use Rattle.passages.proofs.Closing.{time-judged}
+use Rattle.passages.proofs.FirstWords.{time-judged}
 use Rattle.passages.proofs.FixedWords.{fixed-fcst, fixed-at}
 use Rattle.passages.proofs.endings.read_forecast_time.Statement.{statement}
 use Rattle.passages.proofs.endings.read_forecast_time.Tie as tie

@@ -4,7 +4,7 @@ use mathlib.Core.Path.{ap, _∙_}
 use Rattle.levels.specs.Levels.{flight}
 use Rattle.grammar.specs.Steps.{flightOf}
 use Rattle.passages.specs.Reports.{flightIn}
-use Rattle.passages.proofs.Closing.{flight-none, flight-yes}
+use Rattle.passages.proofs.FirstWords.{flight-none, flight-yes}
 use Rattle.passages.proofs.KindLaws.{required-yes, required-no}
 use Rattle.passages.proofs.levelling.flight_at.Statement.{statement}
 use Rattle.passages.proofs.levelling.flight_at.Tie as tie

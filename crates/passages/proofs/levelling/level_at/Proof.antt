@@ -2,7 +2,7 @@
 use borrow.Author.Needs.{needs}
 use mathlib.Core.Path.{sym, _∙_}
 use Rattle.levels.specs.Levels.{levelOf, goodLevelWord}
-use Rattle.passages.proofs.Closing.{level-none, level-no, level-yes}
+use Rattle.passages.proofs.FirstWords.{level-none, level-no, level-yes}
 use Rattle.passages.proofs.KindLaws.{required-yes, required-no}
 use Rattle.passages.proofs.levelling.level_at.Statement.{statement}
 use Rattle.passages.proofs.levelling.level_at.Tie as tie

@@ -1,7 +1,7 @@
 -- `read_phenomenon` meets its contract: the first word of a report is judged by the kind of the bulletin. Assumes nothing.
 use borrow.Author.Needs.{needs}
 use mathlib.Core.Path.{sym, _∙_}
-use Rattle.passages.proofs.Closing.{weather-form, ash-form}
+use Rattle.passages.proofs.FirstWords.{weather-form, ash-form}
 use Rattle.passages.proofs.reports.read_phenomenon.Statement.{statement}
 use Rattle.passages.proofs.reports.read_phenomenon.Tie as tie
 

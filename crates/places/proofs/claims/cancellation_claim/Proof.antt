@@ -1,5 +1,5 @@
 -- `cancellation_claim` meets its contract. Assumes nothing.
-use Rattle.places.proofs.ClaimLaws.{untargeted, targeted}
+use Rattle.places.proofs.ClaimReturns.{untargeted, targeted}
 use borrow.Author.Needs.{needs}
 use Rattle.places.proofs.claims.cancellation_claim.Statement.{statement}
 use Rattle.places.proofs.claims.cancellation_claim.Tie as tie

@@ -1,5 +1,5 @@
 -- `claim_of` meets its contract. Assumes nothing.
-use Rattle.places.proofs.ClaimLaws.{bad-record, a-test, no-start, no-end, a-claim, good-known}
+use Rattle.places.proofs.ClaimReturns.{bad-record, a-test, no-start, no-end, a-claim, good-known}
 use borrow.Author.Needs.{needs}
 use Rattle.places.proofs.claims.claim_of.Statement.{statement}
 use Rattle.places.proofs.claims.claim_of.Tie as tie

@@ -1,5 +1,5 @@
 -- `ending_at` meets its contract. Assumes nothing.
-use Rattle.places.proofs.ClaimLaws.{ended, unended}
+use Rattle.places.proofs.ClaimReturns.{ended, unended}
 use borrow.Author.Needs.{needs}
 use Rattle.places.proofs.claims.ending_at.Statement.{statement}
 use Rattle.places.proofs.claims.ending_at.Tie as tie

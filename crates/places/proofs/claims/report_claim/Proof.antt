@@ -1,5 +1,5 @@
 -- `report_claim` meets its contract. Assumes nothing.
-use Rattle.places.proofs.ClaimLaws.{reports}
+use Rattle.places.proofs.ClaimReturns.{reports}
 use borrow.Author.Needs.{needs}
 use Rattle.places.proofs.claims.report_claim.Statement.{statement}
 use Rattle.places.proofs.claims.report_claim.Tie as tie

@@ -1,5 +1,5 @@
 -- `timed_claim` meets its contract. Assumes nothing.
-use Rattle.places.proofs.ClaimLaws.{timed-none, timed-test, timed-cancels, timed-reports, named-good, own-good}
+use Rattle.places.proofs.ClaimReturns.{timed-none, timed-test, timed-cancels, timed-reports, named-good, own-good}
 use borrow.Author.Needs.{needs}
 use Rattle.places.proofs.claims.timed_claim.Statement.{statement}
 use Rattle.places.proofs.claims.timed_claim.Tie as tie

@@ -1,7 +1,7 @@
 -- The starred cases, evaluated.
 -- Assumes nothing.
 use mathlib.Core.Bool.{true, false}
-use mathlib.Core.List.{List, [], _∷_, _++_}
+use mathlib.Core.List.{List, _∷_, _++_}
 use mathlib.Core.Path.{_≡_, refl, ap, _∙_}
 use Prim.Native.Nat.{ℕ}
 use lib.ListN.{replicate}
@@ -31,7 +31,7 @@ use Rattle.places.specs.Padded.{padded, unpadded, heldSequence}
 use Rattle.places.specs.Places.{sameIdentity, noPlace, emptyPlace, heldIdentity, heldCorrection, heldPlace, goodPlace}
 use Rattle.board.specs.Boards.{distinct, goodPlaces, goodBoard, emptyBoard, refusalAt}
 use Rattle.places.specs.Claims.{reportPlace, targetPlace, ending, cancels, timed, claimOf}
-use Rattle.board.specs.Posts.{dropped, objection, spotOf, accepted, placeAt, settled, claimedOn, postOf}
+use Rattle.board.specs.Posts.{dropped, objection, spotOf, placeAt, settled, claimedOn, postOf}
 use Rattle.listing.specs.Rows.{inForce, selected, inserted, sortedAfter, rowsOf}
 use Rattle.listing.specs.Listings.{timeRecord, messageRecord, records, listingOf, tells, listOf}
 use Rattle.board.specs.declared.Board.{Board}

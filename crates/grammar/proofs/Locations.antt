@@ -45,8 +45,8 @@ use Rattle.grammar.proofs.Invariant.{ObservationOk, LocationOk, LevelOk
 use Rattle.grammar.proofs.Moves.{Fine, fine-as, fine-end, Next, next-by, next-end}
 use Rattle.grammar.proofs.Moves.Fine.{leads, dies}
 use Rattle.grammar.proofs.Outlines.{pointAt, latitude-on, dash-on, longitude-on, longitude-there, first-good, other-latitude, first-latitude, first-longitude, east, east-zero, north, north-zero, Elsewhere, elsewhere}
-use Rattle.grammar.proofs.PlaceLaws.{PlaceFine, place-fine, outline-last, good-side, bounded-first, first-none, first-side}
-use Rattle.grammar.proofs.PlaceLaws.PlaceFine.{goesOn, isThere, isPast, isNowhere}
+use Rattle.grammar.proofs.LocationLaws.{PlaceFine, place-fine, outline-last, good-side, bounded-first, first-none, first-side}
+use Rattle.grammar.proofs.LocationLaws.PlaceFine.{goesOn, isThere, isPast, isNowhere}
 use Rattle.grammar.proofs.Told.{onward, onward-last, placingWords, toldSite, told, toldRecord}
 
 -- Sound. One more word of a location stands behind what was told before it.

@@ -79,11 +79,12 @@ side-letter a w t = either-cases (same w (a .plus ∷ [])) (same w (a .minus ∷
     (λ e. let i : w ≡ a .plus ∷ [] = same-is w (a .plus ∷ []) e in rw i (either-left _ (eq-eqb (a .plus) (a .plus) refl), refl))
     (λ e. let i : w ≡ a .minus ∷ [] = same-is w (a .minus ∷ []) e in rw i (either-right (eqb (a .minus) (a .plus)) (eq-eqb (a .minus) (a .minus) refl), refl))
 
--- a good side is not empty
+-- a side is good by its letter and its coordinate
 pub good-side : (a : Axis) (s : Side) → letterOn a (s .of) ≡ true → goodCoordinate a (s .at) ≡ true → goodSide a s ≡ true
 unfolding goodSide
 good-side a s l c = both-true l c
 
+-- a good side is not empty
 pub good-side-full : (a : Axis) → 0 < a .plus → 0 < a .minus → (s : Side) → goodSide a s ≡ true → emptySide s ≡ false
 unfolding emptySide
 good-side-full a p m s g =

@@ -1,7 +1,6 @@
 -- The four frauds are excluded, and every board that meets demand 3 behaves as ours: the paper's own cases show each fraud up.
 -- Assumes nothing.
 use mathlib.Core.List.{List, [], _∷_, _++_}
-use mathlib.Core.Logic.{_↔_}
 use mathlib.Core.Path.{_≡_, refl, sym, ap, subst, _∙_}
 use Prim.Native.Nat.{ℕ}
 use native.Mathlib.Omega.{arith}
@@ -14,21 +13,21 @@ use Rattle.cases.specs.Cases.{cancelling, laterSaying}
 use Rattle.cases.proofs.Readings.{sample-read, cancellation-read}
 use Rattle.writer.specs.declared.Written.{Written}
 use Rattle.places.specs.declared.Place.{Place}
-use Rattle.board.specs.declared.Board.{Board}
 use Rattle.listing.specs.Listings.{Told}
 use Rattle.promises.specs.Calls.{History, Run, Happens}
 use Rattle.promises.specs.Calls.Call.{posted, listed}
 use Rattle.promises.specs.Calls.Run.{begun, then-posted, then-listed}
-use Rattle.promises.specs.InForce.{IsListing, listing, ListAnswered}
+use Rattle.promises.specs.InForce.{IsListing, ListAnswered}
+use Rattle.listing.specs.Listings.{listing}
 use Rattle.promises.specs.InForce.ListAnswered.{outside, early, short, whole}
-use Rattle.promises.specs.Demand2.{Says, Demand2}
+use Rattle.promises.specs.Demand2.{Says}
 use Rattle.promises.specs.Demand3.{Demand3}
 use Rattle.promises.specs.Frauds.{MeetsDemand2, RefusesEverything, OneFixedRecord, FraudsExcluded}
 use Rattle.promises.specs.Starred.{hex, inPairs, page}
 use Rattle.promises.proofs.Histories.{may-begin, demand-3}
 use Rattle.promises.proofs.Contracts.{may-read, demand-2}
 use Rattle.promises.proofs.Listing.{one-listing}
-use Rattle.promises.proofs.Starring.{samplePlace, cancelledPlace, boardAt, sampleRecord, sample-posted, sample-cancelled, listed-meanwhile, listed-cancelled}
+use Rattle.promises.proofs.StarredLaws.{samplePlace, cancelledPlace, boardAt, sampleRecord, sample-posted, sample-cancelled, listed-meanwhile, listed-cancelled}
 
 -- Readers.
 
@@ -112,11 +111,11 @@ withoutIt = (hex "01" ++ hex "00C0FEF4") ++ drop 5 (page 22)
 
 lists-it : Happens (listed 12648180 (page 22) 0 22 withIt ∷ afterSample)
 unfolding inPairs
-lists-it = record { board = boardAt samplePlace 12648030; run = then-listed run-sample (record { lent = ([], tt); place = (0, 0); name = 0; allowed = sym listed-meanwhile }) }
+lists-it = record { board = boardAt samplePlace 12648030; run = then-listed run-sample (record { lent = ([], tt); address = (0, 0); name = 0; allowed = sym listed-meanwhile }) }
 
 lists-it-not : Happens (listed 12648180 (page 22) 0 5 withoutIt ∷ afterCancellation)
 unfolding inPairs
-lists-it-not = record { board = boardAt cancelledPlace 12648180; run = then-listed run-cancellation (record { lent = ([], tt); place = (0, 0); name = 0; allowed = sym listed-cancelled }) }
+lists-it-not = record { board = boardAt cancelledPlace 12648180; run = then-listed run-cancellation (record { lent = ([], tt); address = (0, 0); name = 0; allowed = sym listed-cancelled }) }
 
 -- the byte after the time is the sample's kind, or a byte that was not written
 two-listings : withIt ≡ withoutIt → ⊥
