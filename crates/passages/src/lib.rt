@@ -23,7 +23,7 @@ mod observing;
 mod opening;
 mod outlining;
 mod reports;
-mod tests;
+mod testing;
 mod weather;
 
 use grammar::Reply;

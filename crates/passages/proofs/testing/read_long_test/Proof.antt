@@ -1,8 +1,8 @@
 -- `read_long_test` meets its contract: three parts, one after another. Assumes nothing.
 use borrow.Author.Needs.{needs}
 use Rattle.passages.proofs.Chains.{on, off}
-use Rattle.passages.proofs.tests.read_long_test.Statement.{statement}
-use Rattle.passages.proofs.tests.read_long_test.Tie as tie
+use Rattle.passages.proofs.testing.read_long_test.Statement.{statement}
+use Rattle.passages.proofs.testing.read_long_test.Tie as tie
 
 read-this-is-a-requires : tie.Need-read-this-is-a-requires
 read-this-is-a-requires c κs = search needs

@@ -8,8 +8,8 @@ use Rattle.grammar.specs.Steps.{step}
 use Rattle.passages.proofs.Chains.{on, off}
 use Rattle.passages.proofs.FixedWords.{fixed-please}
 use Rattle.passages.proofs.Forming.{disregard-told}
-use Rattle.passages.proofs.tests.read_please.Statement.{statement}
-use Rattle.passages.proofs.tests.read_please.Tie as tie
+use Rattle.passages.proofs.testing.read_please.Statement.{statement}
+use Rattle.passages.proofs.testing.read_please.Tie as tie
 
 fixed-at-requires : tie.Need-fixed-at-requires
 fixed-at-requires c κs = search needs

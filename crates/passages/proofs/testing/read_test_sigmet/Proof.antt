@@ -6,8 +6,8 @@ use Rattle.grammar.specs.States.State.{atTestText}
 use Rattle.grammar.specs.Steps.{step}
 use Rattle.passages.proofs.Chains.{on, off}
 use Rattle.passages.proofs.FixedWords.{fixed-test, fixed-sigmet-comma}
-use Rattle.passages.proofs.tests.read_test_sigmet.Statement.{statement}
-use Rattle.passages.proofs.tests.read_test_sigmet.Tie as tie
+use Rattle.passages.proofs.testing.read_test_sigmet.Statement.{statement}
+use Rattle.passages.proofs.testing.read_test_sigmet.Tie as tie
 
 fixed-at-requires : tie.Need-fixed-at-requires
 fixed-at-requires c κs = search needs

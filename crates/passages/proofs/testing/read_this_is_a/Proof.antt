@@ -6,8 +6,8 @@ use Rattle.grammar.specs.States.State.{atTestText}
 use Rattle.grammar.specs.Steps.{step}
 use Rattle.passages.proofs.Chains.{on, off}
 use Rattle.passages.proofs.FixedWords.{fixed-this, fixed-is, fixed-a}
-use Rattle.passages.proofs.tests.read_this_is_a.Statement.{statement}
-use Rattle.passages.proofs.tests.read_this_is_a.Tie as tie
+use Rattle.passages.proofs.testing.read_this_is_a.Statement.{statement}
+use Rattle.passages.proofs.testing.read_this_is_a.Tie as tie
 
 fixed-at-requires : tie.Need-fixed-at-requires
 fixed-at-requires c κs = search needs

@@ -6,8 +6,8 @@ use Rattle.grammar.specs.States.State.{atTest, atTestText}
 use Rattle.grammar.specs.Steps.{step}
 use Rattle.passages.proofs.Chains.{on}
 use Rattle.passages.proofs.FixedWords.{fixed-sigmet}
-use Rattle.passages.proofs.tests.read_test.Statement.{statement}
-use Rattle.passages.proofs.tests.read_test.Tie as tie
+use Rattle.passages.proofs.testing.read_test.Statement.{statement}
+use Rattle.passages.proofs.testing.read_test.Tie as tie
 
 perhaps-at-requires : tie.Need-perhaps-at-requires
 perhaps-at-requires c κs = search needs
