@@ -129,21 +129,6 @@ module _ {h : History} {b : Board} (t : Tracks h b) {time : ℕ} (l : lastClock 
   abbrev rows : List Place
   rows = rowsOf time (b .places)
 
-  in-force : (x : Place) → On (b .places) x → inForce time x ≡ true → InForce h time x
-  unfolding inForce
-  in-force x o f =
-      let s = t .stands x o in
-      let parts = both-three (not (x .marked)) (leb (x .identity .start) time) (ltb time (x .identity .end)) f in
-      let n : x .marked ≡ false = not-true (x .marked) (parts .0) in
-      record {
-        reported = stands-as s n;
-        latest = stands-later s n;
-        unnamed = stands-unnamed s n;
-        begun = leb-true (x .identity .start) time (parts .1);
-        lasting = ltb-true time (x .identity .end) (parts .2);
-        unmarked = n;
-      }
-
   is-forced : (x : Place) → InForce h time x → inForce time x ≡ true
   unfolding inForce
   is-forced x f =
@@ -158,6 +143,21 @@ module _ {h : History} {b : Board} (t : Tracks h b) {time : ℕ} (l : lastClock 
       let same : q .correction ≡ x .correction = omega (arith, most, least) in
       let marks : q .marked ≡ x .marked = m ∙ sym (f .unmarked) in
       λ i. record { identity = e i; correction = same i; marked = marks i }
+
+  in-force : (x : Place) → On (b .places) x → inForce time x ≡ true → InForce h time x
+  unfolding inForce
+  in-force x o f =
+      let s = t .stands x o in
+      let parts = both-three (not (x .marked)) (leb (x .identity .start) time) (ltb time (x .identity .end)) f in
+      let n : x .marked ≡ false = not-true (x .marked) (parts .0) in
+      record {
+        reported = stands-as s n;
+        latest = stands-later s n;
+        unnamed = stands-unnamed s n;
+        begun = leb-true (x .identity .start) time (parts .1);
+        lasting = ltb-true time (x .identity .end) (parts .2);
+        unmarked = n;
+      }
 
   forced-on : (x : Place) → InForce h time x → On (b .places) x
   forced-on x f =

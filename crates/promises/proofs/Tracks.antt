@@ -126,6 +126,10 @@ report-refused : {i : Identity} {c clock answer : ℕ} {r : Record} {h : History
 report-refused n (report-now z m) = absurd (n z)
 report-refused n (report-before m) = m
 
+-- a cancellation is not forgotten at the next post
+cancelled-still : {i : Identity} {clock answer : ℕ} {r : Record} {h : History} → Cancelled i h → Cancelled i (posted clock r answer ∷ h)
+cancelled-still m = cancelled-before m
+
 cancelled-refused : {i : Identity} {clock answer : ℕ} {r : Record} {h : History} → (answer ≡ 0 → ⊥) → Cancelled i (posted clock r answer ∷ h) → Cancelled i h
 cancelled-refused n (cancelled-now z m) = absurd (n z)
 cancelled-refused n (cancelled-before m) = m
@@ -138,7 +142,7 @@ refused-same clock answer r h n =
       report = λ i c m. report-refused n m;
       reported = λ i c m. report-before m;
       cancel = λ i m. cancelled-refused n m;
-      cancelled = λ i m. cancelled-before m;
+      cancelled = λ i m. cancelled-still m;
     }
 
 -- An accepted post adds its message, and nothing else.
@@ -270,7 +274,7 @@ module _ {h : History} {b : Board} (t : Tracks h b) (clock answer : ℕ) (r : Re
   new-stands (cancellation m l) y s = stands-marked refl (cancelled-now e m)
 
   still-stands : {q : Place} → (q .identity ≡ p .identity → ⊥) → Stands h q → Stands g q
-  still-stands n (stands-marked m c) = stands-marked m (cancelled-before c)
+  still-stands n (stands-marked m c) = stands-marked m (cancelled-still c)
   still-stands {q} n (stands-reported m x l u) =
       stands-reported m (report-before x)
       (λ d y. ⊎-elim (λ (k : p ≡ reportedPlace (q .identity) d). absurd (n (sym (ap (λ (v : Place). v .identity) k)))) (λ (w : Reported (q .identity) d h). l d w) (new-report claimed y))

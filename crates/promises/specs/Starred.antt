@@ -108,7 +108,8 @@ pub record Starred : Type 0 where
   pub leap-year : startOf 12709380 (dayAndTime 1 1 0) ≡ 12709500
   pub the-28th : minuteOf 2023 2 28 23 0 ≡ 12182340
   pub common-year : postOf emptyBoard 12182340 onTheTwentyNinth .answer ≡ 18
-  -- "Sequence 2, VALID 181100/181230, `CNL SIGMET 1 180830/181230`, posted at 12,648,180: the sample is off the list; at 12,648,181 the sample posted again gets 22, the cancellation posted again 21."
+  -- "Sequence 2, VALID 181100/181230, `CNL SIGMET 1 180830/181230`, posted at 12,648,180: the sample is off the list; at
+  -- 12,648,181 the sample posted again gets 22, the cancellation posted again 21."
   pub cancellation-read : readOf (laterSaying "QBBB NORTH SOUND FIR CNL SIGMET 1 180830/181230=") ≡ acceptance cancelling
   pub cancelled : postOf withSample 12648180 cancelling .answer ≡ 0
   pub off-the-list : listOf withCancellation 12648180 (page 22) ≡ tells (hex "01" ++ hex "00C0FEF4") (page 22)
