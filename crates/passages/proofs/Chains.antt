@@ -29,18 +29,8 @@ module _ {s mid : State} {t : List ℕ} {at number place : ℕ} (g : Goes s t at
   on e h = record { says = g .says ∙ (goes-zero number place mid t e ∙ h .says) }
 
   -- refused: whatever would have come
-  pub off : {next : State} → (number ≡ 0 → ⊥) → Goes s t at number place next
-  off {next} e = record { says = g .says ∙ (goes-refused number place mid t e ∙ sym (goes-refused number place next t e)) }
-
-  pub on-ends : {r : Record} {number′ place′ : ℕ} → number ≡ 0 → Ends mid t place number′ place′ r → Ends s t at number′ place′ r
-  on-ends e h = record { says = g .says ∙ (goes-zero number place mid t e ∙ h .says) }
-
   pub off-ends : {r : Record} → (number ≡ 0 → ⊥) → Ends s t at number place r
   off-ends {r} e = record { says = g .says ∙ (goes-refused number place mid t e ∙ sym (concluded-refused number place r e)) }
-
-  -- the reply to a refusal in a section
-  pub off-reply : (number ≡ 0 → ⊥) → replyOf (runAt s t at) ≡ refusal number place
-  off-reply e = rw (g .says ∙ goes-refused number place mid t e)
 
 -- the reply of a message that is over
 module _ {s : State} {t : List ℕ} {at number place : ℕ} {r : Record} (g : Ends s t at number place r) where

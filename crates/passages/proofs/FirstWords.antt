@@ -1,12 +1,14 @@
 -- What the machine does with the first word of a report and with the time of a forecast; and which words are a level, told by what the code looks at.
 -- Assumes nothing.
-use mathlib.Core.Bool.{true, false}
+use mathlib.Core.Bool.{true, false, not}
 use mathlib.Core.List.{List, []}
 use mathlib.Core.Logic.{⊎-elim}
-use mathlib.Core.Path.{_≡_, refl, ap, _∙_}
+use mathlib.Core.Path.{_≡_, refl, ap, sym, _∙_}
 use Prim.Native.Nat.{ℕ}
-use borrow.Author.Tests.{eq-eqb, ne-eqb}
-use Rattle.lists.proofs.Choice.{clash}
+use lib.Dec.{eqb}
+use borrow.Author.Tests.{eq-eqb, ne-eqb, eqb-true, eqb-false, not-true}
+use Rattle.lists.specs.Choice.{both}
+use Rattle.lists.proofs.Choice.{by, clash, both-left, both-right, both-true}
 use Rattle.groups.specs.Groups.{timeOf}
 use Rattle.groups.specs.declared.Time.{Time}
 use Rattle.levels.specs.Levels.{levelOf, goodLevelWord, emptyLevel, flight}
@@ -73,3 +75,17 @@ flight-level (TopAboveFlight n) g z = absurd (z refl)
 
 pub flight-yes : (w : List ℕ) (n : ℕ) → n ≡ flightIn w → (n ≡ 0 → ⊥) → flight n ≡ true
 flight-yes w n e z = rw e (flight-level (levelOf w) (good-read w (λ p. z (e ∙ ap flightOf p))) (λ y. z (e ∙ y)))
+
+-- as one test
+pub level-good : (w : List ℕ) (v : Level) → v ≡ levelOf w → not (emptyLevel v) ≡ goodLevelWord v
+level-good w v e = by (emptyLevel v) (λ y. rw y (sym (level-no v y))) (λ y. rw y (sym (level-yes w v e y)))
+
+pub flight-good : (w : List ℕ) (n : ℕ) → n ≡ flightIn w → not (eqb n 0) ≡ flight n
+flight-good w n e = by (eqb n 0) (λ y. rw (eqb-true n 0 y)) (λ y. rw y (sym (flight-yes w n e (eqb-false n 0 y))))
+
+-- the one number, and not the other
+pub both-these : (a b c d : ℕ) → both (eqb a b) (not (eqb c d)) ≡ true → (a ≡ b) × (c ≡ d → ⊥)
+both-these a b c d e = (eqb-true a b (both-left _ _ e), eqb-false c d (not-true _ (both-right (eqb a b) _ e)))
+
+pub not-both : (a b c d : ℕ) → both (eqb a b) (not (eqb c d)) ≡ false → (c ≡ d → ⊥) → a ≡ b → ⊥
+not-both a b c d e n p = clash _ (both-true (eq-eqb a b p) (ap not (ne-eqb c d n))) e

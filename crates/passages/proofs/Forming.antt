@@ -1,6 +1,6 @@
 -- What the forms of a message do with a word that the code tells by its code, by its number among the keywords or by its place in a table.
 -- Assumes nothing.
-use mathlib.Core.Bool.{Bool, true, false}
+use mathlib.Core.Bool.{true, false}
 use mathlib.Core.List.{List, [], map}
 use mathlib.Core.Path.{_≡_, refl, ap, sym, _∙_, subst}
 use Prim.Native.Nat.{ℕ, _+_, _-_, _≤_, _<_}
@@ -8,7 +8,7 @@ use native.Mathlib.Omega.{arith}
 use lib.Dec.{eqb}
 use lib.ListN.{length}
 use borrow.Author.Tests.{lt-ltb, le-ltb, le-leb, eq-eqb, ne-eqb}
-use Rattle.lists.specs.Lists.{allOf, indexOf, same}
+use Rattle.lists.specs.Lists.{allOf, indexOf, part, same}
 use Rattle.lists.specs.Text.{bytes}
 use Rattle.lists.proofs.Choice.{by, clash, both-true}
 use Rattle.lists.proofs.Lists.{same-refl, same-is}
@@ -17,16 +17,15 @@ use Rattle.figures.proofs.Keywords.{find-word}
 use Rattle.figures.proofs.Kept.{reads-spelled}
 use Rattle.keywords.specs.Keywords.{shortKeywords, longKeywords, keywords, keywordOf, goodKeyword, spellKeyword}
 use Rattle.keywords.proofs.KeywordLaws.{keyword-reads}
-use Rattle.message.specs.Names.{noName}
 use Rattle.grammar.specs.States.{ToArea}
-use Rattle.grammar.specs.States.State.{atForm, atStorm, atSevere, atIce, atAsh, atEruption, atPosition}
-use Rattle.grammar.specs.Steps.{goesIf, stormWords, stormOf, goodStorm, stepWeather, step}
-use Rattle.passages.specs.Going.{Goes, wordFrom}
-use Rattle.passages.specs.Kinds.{Fixed, Perhaps, CodeAt}
-use Rattle.passages.proofs.Chains.{on}
-use Rattle.passages.proofs.FixedWords.{fixed-turb, fixed-ice, fixed-cld, fixed-mt, fixed-psn}
+use Rattle.grammar.specs.States.State.{atForm, atStorm}
+use Rattle.grammar.specs.Steps.{stormWords, stormOf, goodStorm, stepWeather, step}
+use Rattle.passages.specs.Going.{wordFrom}
+use Rattle.passages.specs.Leading.{Leads, Stands, Before}
+use Rattle.passages.specs.declared.steps.Step.{Step}
 use Rattle.passages.proofs.Going.{some-word}
-use Rattle.passages.proofs.KindLaws.{goes-word, is-yes, is-no, goes-fixed}
+use Rattle.passages.proofs.KindLaws.{part-is, goes-word}
+use Rattle.passages.proofs.Leads.{whether, nothing, standing, past-leads}
 
 -- A keyword, by its number.
 
@@ -62,43 +61,31 @@ storm-none : goodStorm (stormOf []) ≡ false
 unfolding stormWords indexOf same
 storm-none = refl
 
-module _ {t : List ℕ} {at start end code n : ℕ} {codes : List ℕ} (k : CodeAt t at start end code) (f : n ≡ indexOf (eqb code) codes) (p : codes ≡ map codeOf stormWords) where
-  storm-place : n ≡ wordIn stormWords (wordFrom t at)
-  storm-place = rw (f, p, k .coded) (find-word stormWords (wordFrom t at) storms-short)
+module _ {t : List ℕ} {from : Step} {code n : ℕ} {codes : List ℕ} (f : Stands t from) (e : code ≡ codeOf (part (from .place) (from .end) t))
+    (i : n ≡ indexOf (eqb code) codes) (p : codes ≡ map codeOf stormWords) where
+  storm-place : n ≡ wordIn stormWords (part (from .place) (from .end) t)
+  storm-place = rw (i, p, e) (find-word stormWords (part (from .place) (from .end) t) storms-short)
 
-  storm-number : n < 4 → stormOf (wordFrom t at) ≡ n + 1
+  storm-number : n < 4 → stormOf (part (from .place) (from .end) t) ≡ n + 1
   storm-number l =
-      rw (lt-ltb (wordIn stormWords (wordFrom t at)) (length stormWords) (omega (arith, storm-place, storms-count))) (omega (arith, storm-place))
+      rw (lt-ltb (wordIn stormWords (part (from .place) (from .end) t)) (length stormWords) (omega (arith, storm-place, storms-count))) (omega (arith, storm-place))
+
+  storm-good : n < 4 → goodStorm (stormOf (part (from .place) (from .end) t)) ≡ true
+  storm-good l = rw (storm-number l) (both-true (le-leb 1 (n + 1) (omega arith)) (le-leb (n + 1) (1 + length stormWords - 1) (omega (arith, storms-count))))
 
   -- the word is a storm's
-  pub goes-storm : at ≤ length t → n < 4 → (o : ToArea) → step (atForm o) (wordFrom t at) ≡ stepWeather o (wordFrom t at) → Goes (atForm o) t at 0 end (atStorm o (n + 1))
-  goes-storm h l o j =
-      let good : goodStorm (stormOf (wordFrom t at)) ≡ true =
-      rw (storm-number l) (both-true (le-leb 1 (n + 1) (omega arith)) (le-leb (n + 1) (1 + length stormWords - 1) (omega (arith, storms-count)))) in
-      goes-word h (k .word) (atForm o) (atStorm o (n + 1)) (some-word (λ (x : List ℕ). goodStorm (stormOf x)) (wordFrom t at) storm-none good)
-      (j ∙ rw (good, storm-number l))
+  pub goes-storm : {to : Step} → n < 4 → Before t (from .end) to → (o : ToArea) → (from .number ≡ 0 → step (atForm o) (wordFrom t (from .place)) ≡ stepWeather o (wordFrom t (from .place)))
+      → Leads (atForm o) t from to (atStorm o (n + 1))
+  goes-storm l past o j = whether (from .number)
+      (λ z.
+      let word : part (from .place) (from .end) t ≡ wordFrom t (from .place) = part-is (f .going z) in
+      let good : goodStorm (stormOf (wordFrom t (from .place))) ≡ true = rw word at (storm-good l) in
+      past-leads f z (goes-word (standing f) (f .going z) (atForm o) (atStorm o (n + 1)) (some-word (λ (x : List ℕ). goodStorm (stormOf x)) (wordFrom t (from .place)) storm-none good)
+      (j z ∙ rw (good, ap stormOf (sym word) ∙ storm-number l))) past)
+      (λ z. clash _ (storm-good l) (ap (λ (u : List ℕ). goodStorm (stormOf u)) (nothing t _ _ (sym (f .stays z))) ∙ storm-none))
 
   -- the word is none of theirs
-  pub no-storm : 4 ≤ n → goodStorm (stormOf (wordFrom t at)) ≡ false
-  no-storm l = rw (le-ltb (wordIn stormWords (wordFrom t at)) (length stormWords) (omega (arith, storm-place, storms-count)))
-
--- A word by its code, where the machine makes other tests before, or tells the word otherwise.
-module _ {t : List ℕ} {at start end code : ℕ} (h : at ≤ length t) (k : CodeAt t at start end code) where
-  -- `SEV ICE`
-  pub goes-ice : code ≡ 0x01494345 → (o : ToArea) → Goes (atSevere o) t at 0 end (atIce o)
-  unfolding step
-  goes-ice e o = goes-fixed h k fixed-ice e (atSevere o) (atIce o) (rw (is-no h k fixed-turb (λ z. omega arith), is-yes h k fixed-ice e))
-
-  -- after `VA`, a word other than `CLD`
-  pub ash-erupts : (code ≡ 0x01434c44 → ⊥) → (o : ToArea) → step (atAsh o) (wordFrom t at) ≡ goesIf (eqb 42 (keywordOf (wordFrom t at))) (atEruption o)
-  unfolding step
-  ash-erupts e o = rw (is-no h k fixed-cld e, eruption-told (wordFrom t at))
-
--- A word after `VA ERUPTION` that is not `MT`: it is `PSN`, or refused.
-
-pub no-mountain : {t : List ℕ} {at place number after : ℕ} {found : Bool} → found ≡ false → Perhaps 0x014d54 t at found place → Fixed 0x0150534e 7 t place number after
-    → (o : ToArea) → Goes (atEruption o) t at number after (atPosition o noName)
-unfolding step
-no-mountain e p q o =
-    on (p .without e _ fixed-mt (atEruption o) (atEruption o) (λ _. refl) refl) refl
-    (q .says _ fixed-psn (atEruption o) (atPosition o noName) (rw (p .other e _ fixed-mt)) refl)
+  pub no-storm : from .number ≡ 0 → 4 ≤ n → goodStorm (stormOf (wordFrom t (from .place))) ≡ false
+  no-storm z l =
+      ap (λ (u : List ℕ). goodStorm (stormOf u)) (sym (part-is (f .going z)))
+      ∙ rw (le-ltb (wordIn stormWords (part (from .place) (from .end) t)) (length stormWords) (omega (arith, storm-place, storms-count)))

@@ -6,11 +6,13 @@ use mathlib.Core.Path.{_≡_, refl, ap, sym, _∙_}
 use Prim.Native.Nat.{ℕ, _-_, _≤_, _<_}
 use native.Mathlib.Omega.{arith}
 use lib.Dec.{ltb}
-use lib.ListN.{length}
+use lib.ListN.{length, getD, drop, length-drop}
+use lib.Seq.{getD-drop}
 use borrow.Author.Tests.{ltb-true, ltb-false}
-use Rattle.lists.specs.Lists.{part}
+use Rattle.lists.specs.Lists.{part, indexFrom}
 use Rattle.lists.proofs.Choice.{by, clash}
-use Rattle.lists.proofs.Lists.{length-part}
+use Rattle.lists.proofs.Lists.{length-part, from-here, from-none, index-found}
+use Rattle.words.specs.Bytes.{blank, solid}
 use Rattle.words.specs.Words.{Word, wordsAt, spanOf}
 use Rattle.words.specs.declared.Span.{Span}
 use Rattle.words.proofs.Words.{Next, Last, span-next, span-last}
@@ -22,6 +24,16 @@ use Rattle.grammar.specs.States.{State}
 use Rattle.grammar.specs.States.Move.{goes, done, dead}
 use Rattle.grammar.specs.Steps.{step}
 use Rattle.passages.specs.Going.{wordFrom, WordAt}
+
+-- what is found passes the test, and is found again
+from-found : (f : ℕ → Bool) (t : List ℕ) (i : ℕ) → indexFrom f i t < length t → f (getD t (indexFrom f i t) 0) ≡ true
+from-found f t i l = rw getD-drop at (index-found f (drop i t) 0 (omega (arith, length-drop i t)))
+
+from-again : (f : ℕ → Bool) (t : List ℕ) (i : ℕ) → i ≤ length t → indexFrom f (indexFrom f i t) t ≡ indexFrom f i t
+from-again f t i h =
+    by (ltb (indexFrom f i t) (length t))
+    (λ e. from-here f t (indexFrom f i t) 0 (ltb-true _ _ e) (from-found f t i (ltb-true _ _ e)))
+    (λ e. from-none f t (indexFrom f i t) (ltb-false _ _ e))
 
 -- the words from a place on: one at least
 record Split (t : List ℕ) (at : ℕ) : Type 0 where
@@ -82,3 +94,25 @@ done-at s r t at h l k =
 pub some-word : (f : List ℕ → Bool) (w : List ℕ) → f [] ≡ false → f w ≡ true → 0 < length w
 some-word f [] p q = clash (f []) q p
 some-word f (b ∷ w) p q = omega arith
+
+-- the word found again from where it begins
+again : (t : List ℕ) (at : ℕ) → at ≤ length t → spanOf t (spanOf t at .start) ≡ spanOf t at
+unfolding spanOf
+again t at h = ap (λ (i : ℕ). record { start = i; end = indexFrom blank i t }) (from-again solid t at h)
+
+pub word-again : {t : List ℕ} {at start end : ℕ} → at ≤ length t → WordAt t at start end → WordAt t start start end
+word-again {t} {at} {start} {end} h w =
+    let e : spanOf t start ≡ spanOf t at = ap (spanOf t) (w .starts) ∙ again t at h in
+    record { starts = w .starts ∙ sym (ap (λ (s : Span). s .start) e); ends = w .ends ∙ sym (ap (λ (s : Span). s .end) e); ordered = w .ordered; within = w .within }
+
+pub from-word-again : (t : List ℕ) (at : ℕ) → at ≤ length t → wordFrom t (spanOf t at .start) ≡ wordFrom t at
+from-word-again t at h = ap (λ (s : Span). part (s .start) (s .end) t) (again t at h)
+
+-- blanks before the next word do nothing
+pub skip : (s : State) (t : List ℕ) (at : ℕ) → at ≤ length t → runAt s t at ≡ runAt s t (spanOf t at .start)
+unfolding runAt
+skip s t at h =
+    ap (run s)
+    (here t at h
+    (λ n. n .words ∙ sym (span-next t (spanOf t at .start) (spanOf t at) (sym (again t at h)) (omega (arith, n .moves, n .within)) .words))
+    (λ l. l .words ∙ sym (span-last t (spanOf t at .start) (spanOf t at) (sym (again t at h)) (omega (arith, l .starts)) (omega (arith, l .starts)) .words)))

@@ -5,27 +5,23 @@ use mathlib.Core.List.{List, [], _∷_}
 use mathlib.Core.Path.{_≡_, refl, ap, sym, _∙_}
 use Prim.Native.Nat.{ℕ, _-_, _≤_, _<_}
 use native.Mathlib.Omega.{arith}
-use lib.Dec.{eqb}
 use lib.ListN.{length}
-use borrow.Author.Tests.{eq-eqb, ne-eqb}
+use borrow.Author.Tests.{ne-eqb}
 use mathlib.Core.Logic.{_⊎_}
 use mathlib.Core.Logic._⊎_.{inl, inr}
 use Rattle.lists.specs.Lists.{part, same}
-use Rattle.lists.proofs.Choice.{clash}
 use Rattle.lists.proofs.Lists.{length-part}
-use Rattle.figures.specs.Keywords.{codeOf}
 use Rattle.figures.specs.Reads.{Reads}
-use Rattle.figures.proofs.Keywords.{same-code}
 use Rattle.grammar.specs.Numbers.{numberOf}
 use Rattle.grammar.specs.Runs.{runAt}
 use Rattle.grammar.specs.Runs.Ran.{refused}
 use Rattle.grammar.specs.States.{State}
 use Rattle.grammar.specs.States.Move.{goes, dead}
 use Rattle.grammar.specs.States.State.{atEnd}
-use Rattle.grammar.specs.Steps.{step}
+use Rattle.grammar.specs.Steps.{goesIf, step}
 use Rattle.grammar.proofs.NumberLaws.{number-range}
 use Rattle.passages.specs.Going.{goesOn, Goes, wordFrom, WordAt}
-use Rattle.passages.specs.Kinds.{Required, FixedWord, Fixed, Perhaps, CodeAt, EndAt}
+use Rattle.passages.specs.Kinds.{EndAt}
 use Rattle.passages.proofs.Chains.{off-ends}
 use Rattle.passages.proofs.Going.{dead-at, same-at, goes-at, done-at, some-word}
 
@@ -51,28 +47,21 @@ module _ {t : List ℕ} {at start end : ℕ} (h : at ≤ length t) (w : WordAt t
   pub same-word : (s next : State) → numberOf s ≡ numberOf next → step s (wordFrom t at) ≡ step next (wordFrom t at) → Goes s t at 0 at next
   same-word s next n k = record { says = same-at s next t at h k n }
 
-  module _ {A : Type 0} (read : List ℕ → A) (good : A → Bool) (refusal : ℕ) (v : A) (e : v ≡ read (part start end t)) where
+  -- a word of a kind, by its value
+  module _ {A : Type 0} (read : List ℕ → A) (good : A → Bool) {v : A} (e : v ≡ read (part start end t)) (s : State) (next : A → State)
+      (k : step s (wordFrom t at) ≡ goesIf (good (read (wordFrom t at))) (next (read (wordFrom t at)))) where
     value-is : v ≡ read (wordFrom t at)
     value-is = e ∙ ap read (part-is w)
 
-    pub required-yes : good (read []) ≡ false → good v ≡ true → Required read good refusal t at 0 end v
-    required-yes none g = record {
-      says = λ s next k n.
-          let yes : good (read (wordFrom t at)) ≡ true = ap good (sym value-is) ∙ g in
-          goes-word s (next v) (some-word (λ (x : List ℕ). good (read x)) _ none yes) (k ∙ rw (yes, value-is));
-      within = w .within;
-    }
+    pub good-word : good (read []) ≡ false → good v ≡ true → Goes s t at 0 end (next v)
+    good-word none g =
+        let yes : good (read (wordFrom t at)) ≡ true = ap good (sym value-is) ∙ g in
+        goes-word s (next v) (some-word (λ (x : List ℕ). good (read x)) _ none yes) (k ∙ rw (yes, value-is))
 
-    pub required-no : good v ≡ false → Required read good refusal t at refusal start v
-    required-no g = record {
-      says = λ s next k n.
-          let no : good (read (wordFrom t at)) ≡ false = ap good (sym value-is) ∙ g in
-          dead-word s (next v) refusal n (k ∙ rw no);
-      within = omega (arith, w .ordered, w .within);
-    }
-
-pub code-at-is : {t : List ℕ} {at start end n : ℕ} → WordAt t at start end → n ≡ codeOf (part start end t) → CodeAt t at start end n
-code-at-is w e = record { word = w; coded = e ∙ ap codeOf (part-is w); within = w .within }
+    pub bad-word : {refusal : ℕ} → numberOf s ≡ refusal → good v ≡ false → Goes s t at refusal start (next v)
+    bad-word n g =
+        let no : good (read (wordFrom t at)) ≡ false = ap good (sym value-is) ∙ g in
+        dead-word s (next v) _ n (k ∙ rw no)
 
 -- what a number field tells of a word: its value is none exactly where the field is that of none
 module _ {A : Type 0} {read : List ℕ → A} {spell : A → List ℕ} {good : A → Bool} {none : A} (r : Reads read spell good none) (field : A → ℕ)
@@ -90,49 +79,6 @@ module _ {A : Type 0} {read : List ℕ → A} {spell : A → List ℕ} {good : A
       go : (read w ≡ none) ⊎ ((good (read w) ≡ true) × (spell (read w) ≡ w)) → good v ≡ true
       go (inl p) = absurd (z (ap field (e ∙ p)))
       go (inr q) = rw e (q .0)
-
--- a fixed word, by its code
-module _ {t : List ℕ} {at start end code : ℕ} (h : at ≤ length t) (c : CodeAt t at start end code) where
-  pub same-code-at : (k : List ℕ) (m : ℕ) → FixedWord k m → eqb code m ≡ same (wordFrom t at) k
-  same-code-at k m f = rw (c .coded, sym (f .has)) (same-code (wordFrom t at) k (f .is-short))
-
-  pub is-yes : {k : List ℕ} {m : ℕ} → FixedWord k m → code ≡ m → same (wordFrom t at) k ≡ true
-  is-yes {k} {m} f e = sym (same-code-at k m f) ∙ eq-eqb code m e
-
-  pub is-no : {k : List ℕ} {m : ℕ} → FixedWord k m → (code ≡ m → ⊥) → same (wordFrom t at) k ≡ false
-  is-no {k} {m} f e = sym (same-code-at k m f) ∙ ne-eqb code m e
-
-  -- the word is this one, and the machine goes on
-  pub goes-fixed : {k : List ℕ} {m : ℕ} → FixedWord k m → code ≡ m → (s next : State) → step s (wordFrom t at) ≡ goes next → Goes s t at 0 end next
-  goes-fixed {k} f e s next j = goes-word h (c .word) s next (some-word (λ (x : List ℕ). same x k) _ (f .some) (is-yes f e)) j
-
-  pub fixed-yes : (m refusal : ℕ) → code ≡ m → Fixed m refusal t at 0 end
-  fixed-yes m refusal e = record {
-    says = λ k f s next j n. goes-fixed f e s next (j ∙ rw (is-yes f e));
-    within = c .within;
-  }
-
-  pub fixed-no : (m refusal : ℕ) → (code ≡ m → ⊥) → Fixed m refusal t at refusal start
-  fixed-no m refusal e = record {
-    says = λ k f s next j n. dead-word h (c .word) s next refusal n (j ∙ rw (is-no f e));
-    within = omega (arith, c .word .ordered, c .within);
-  }
-
-  pub perhaps-yes : (m : ℕ) → code ≡ m → Perhaps m t at true end
-  perhaps-yes m e = record {
-    with = λ y k f s there j. goes-fixed f e s there (j (is-yes f e));
-    without = λ n k f s otherwise j q. clash true refl n;
-    other = λ n k f. clash true refl n;
-    within = c .within;
-  }
-
-  pub perhaps-no : (m : ℕ) → (code ≡ m → ⊥) → Perhaps m t at false at
-  perhaps-no m e = record {
-    with = λ y k f s there j. clash false y refl;
-    without = λ n k f s otherwise j q. same-word h (c .word) s otherwise q (j (is-no f e));
-    other = λ n k f. is-no f e;
-    within = h;
-  }
 
 -- the `=`, the word of no byte
 pub word-length : {t : List ℕ} {at start end : ℕ} → WordAt t at start end → length (wordFrom t at) ≡ end - start

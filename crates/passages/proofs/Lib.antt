@@ -3,6 +3,7 @@ pub mod Chains
 pub mod KindLaws
 pub mod Tells
 pub mod FixedWords
+pub mod Leads
 pub mod Sides
 pub mod FirstWords
 pub mod Determined

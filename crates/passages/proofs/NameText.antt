@@ -10,7 +10,7 @@ use native.Mathlib.Omega.{arith}
 use lib.Dec.{leb}
 use lib.ListN.{length, getD, take, drop, set, replicate, length-append, length-replicate, replicate-append-replicate}
 use lib.Seq.{take-length, take-append-seam, take-suc-set, drop-append-add, drop-at, drop-set-lt, paste, paste-suc}
-use borrow.Author.Tests.{le-leb, lt-leb, leb-true}
+use borrow.Author.Tests.{eq-eqb, le-leb, lt-leb, leb-true}
 use Rattle.lists.specs.Choice.{pick}
 use Rattle.lists.specs.Lists.{part}
 use Rattle.lists.proofs.Choice.{by, clash, both-left, both-right, both-true, both-false-left, both-false-right, pick-true, pick-false}
@@ -30,9 +30,12 @@ use Rattle.grammar.specs.States.State.{atName, atMoreName, atForm, atMountain, 
 use Rattle.grammar.specs.Steps.{goesIf, grown, begun, goneOn, step}
 use Rattle.grammar.proofs.NameText.{open-area, open-mountain}
 use Rattle.passages.specs.Going.{Goes, wordFrom, WordAt}
-use Rattle.passages.specs.Naming.{GrownSays, NameBegins, NameGoesOn, TakesName, NameSays}
+use Rattle.passages.specs.Leading.{Stands, Before}
+use Rattle.passages.specs.Naming.{GrownSays, NameBegins, NameGoesOn, TakesName, NameFrom, NameSays}
+use Rattle.passages.specs.declared.steps.Step.{Step}
 use Rattle.passages.proofs.Chains.{on}
-use Rattle.passages.proofs.Going.{goes-at, some-word, word-at-within}
+use Rattle.passages.proofs.Leads.{from-going, stays, on-going, before-run}
+use Rattle.passages.proofs.Going.{from-word-again, goes-at, some-word, word-at-within}
 use Rattle.passages.proofs.KindLaws.{dead-word, part-is, word-length}
 
 -- A word put into bytes.
@@ -120,11 +123,11 @@ mountain-takes o = record {
 }
 
 -- after a whole name the next word closes it, or is refused
-pub name-closed : {m : Bool} {limit refusal : ℕ} {t : List ℕ} {at number place : ℕ} {name : Name} {first : State} {more : List ℕ → State} (closed : Name → List ℕ → Move)
-    → NameSays m limit refusal t at number place name → number ≡ 0 → TakesName m limit refusal first more (λ x w. closed (nameOf x) w)
-    → step (more (take (name .count) (name .bytes))) (wordFrom t place) ≡ closed name (wordFrom t place)
-name-closed {t = t} {place = place} closed n e g =
-    g .goes-on _ _ ∙ (pick-false _ _ (n .stops e) ∙ ap (λ (k : Name). closed k (wordFrom t place)) (sym (n .named e)))
+pub name-closed : {m : Bool} {limit refusal : ℕ} {t : List ℕ} {from to : Step} {name : Name} {first : State} {more : List ℕ → State} (closed : Name → List ℕ → Move)
+    → NameSays m limit refusal t from to name → to .number ≡ 0 → TakesName m limit refusal first more (λ x w. closed (nameOf x) w)
+    → step (more (take (name .count) (name .bytes))) (wordFrom t (to .place)) ≡ closed name (wordFrom t (to .place))
+name-closed {t = t} {to = to} closed n e g =
+    g .goes-on _ _ ∙ (pick-false _ _ (n .stops e) ∙ ap (λ (k : Name). closed k (wordFrom t (to .place))) (sym (n .named e)))
 
 -- The words of a name, as the code finds them.
 
@@ -240,7 +243,7 @@ module _ {m found : Bool} {limit refusal : ℕ} {t : List ℕ} {at place : ℕ} 
         within = b .within;
       }
 
-  pub name-refused : found ≡ false → 0 < refusal → NameSays m limit refusal t at refusal place name
+  pub name-refused : found ≡ false → 0 < refusal → NameFrom m limit refusal t at refusal place name
   name-refused n some =
       let not : begun m limit (wordFrom t at) ≡ false = sym (b .tells) ∙ n in
       record {
@@ -267,10 +270,40 @@ module _ {m found : Bool} {limit refusal : ℕ} {t : List ℕ} {at place place�
         within = b .within;
       }
 
-  pub name-ends : found ≡ false → NameSays m limit refusal t at 0 place name
+  pub name-ends : found ≡ false → NameFrom m limit refusal t at 0 place name
   name-ends f = record {
     says = n .says;
     named = λ z. n .named;
     stops = λ z. sym (b .tells (take (name .count) (name .bytes)) (n .named)) ∙ f;
     within = n .within;
   }
+
+-- from a step on: a name from its place on, or nothing where it was refused
+module _ {m : Bool} {limit refusal : ℕ} {t : List ℕ} {from : Step} {number place : ℕ} {name : Name} (z : from .number ≡ 0)
+    (n : NameFrom m limit refusal t (from .place) number place name) where
+  pub name-going : {to : Step} → number ≡ 0 → Before t place to → NameSays m limit refusal t from to name
+  name-going e p = record {
+    says = λ first more closed g. record {
+      says = on-going first t from z ∙ ((n .says first more closed g .says ∙ rw (eq-eqb number 0 e)) ∙ before-run (more (take (name .count) (name .bytes))) (n .within) p);
+    };
+    named = λ y. n .named e;
+    stops = λ y. ap (goneOn m limit (take (name .count) (name .bytes))) (ap (wordFrom t) (p .placed) ∙ from-word-again t place (n .within)) ∙ n .stops e;
+    stands = p .stands;
+  }
+
+  pub name-denied : (number ≡ 0 → ⊥) → NameSays m limit refusal t from (record { number = number; place = place; end = place }) name
+  name-denied e = record {
+    says = λ first more closed g. from-going z (n .says first more closed g);
+    named = λ y. absurd (e y);
+    stops = λ y. absurd (e y);
+    stands = record { ordered = omega arith; within = n .within; going = λ y. absurd (e y); stays = λ y. refl };
+  }
+
+pub name-stays : {m : Bool} {limit refusal : ℕ} {t : List ℕ} {from : Step} {name : Name} → (from .number ≡ 0 → ⊥) → Stands t from
+    → NameSays m limit refusal t from from name
+name-stays z f = record {
+  says = λ first more closed g. stays z refl refl;
+  named = λ y. absurd (z y);
+  stops = λ y. absurd (z y);
+  stands = f;
+}

@@ -1,18 +1,18 @@
 -- The points of an outline, by how many there are and the first of them: what the code keeps says what the list says. Then one more point, as
 -- an equation of runs, and the loop over the points.
 -- Assumes nothing.
-use mathlib.Core.Bool.{Bool, true, false}
+use mathlib.Core.Bool.{Bool, true, false, not}
 use mathlib.Core.List.{List, [], _∷_, _++_, append-assoc}
 use mathlib.Core.Path.{_≡_, refl, ap, sym, _∙_}
-use Prim.Native.Nat.{ℕ, suc, _+_, _-_, _≤_, _<_}
+use Prim.Native.Nat.{ℕ, suc, _+_, _-_, _<_}
 use native.Mathlib.Omega.{arith}
-use lib.Dec.{ltb, leb}
+use lib.Dec.{eqb, ltb, leb}
 use lib.ListN.{length, getD, set, replicate, length-append, List·getD-append}
 use lib.Seq.{set-append-seam}
 use borrow.Author.Tests.{ltb-true}
 use Rattle.lists.specs.Choice.{pick, both, either}
 use Rattle.lists.specs.Lists.{part}
-use Rattle.lists.proofs.Choice.{by, both-true, both-false-left, both-false-right}
+use Rattle.lists.proofs.Choice.{by, both-left, both-right, both-false-left}
 use Rattle.coordinates.specs.Coordinates.{northSouth, eastWest, coordinateOf, goodCoordinate}
 use Rattle.coordinates.specs.Points.{sameValue, samePoint, noPoint}
 use Rattle.coordinates.specs.declared.Coordinate.{Coordinate}
@@ -24,19 +24,21 @@ use Rattle.grammar.specs.Numbers.{locationPart}
 use Rattle.grammar.specs.Placing.{Placed, closes, mayFollow, pointed, placeStep}
 use Rattle.grammar.specs.Placing.Placed.{on, there, nowhere}
 use Rattle.grammar.specs.Records.{outlined}
-use Rattle.grammar.specs.States.{Site, State}
+use Rattle.grammar.specs.States.{Site}
 use Rattle.grammar.specs.States.Placing.{atLatitude, atLongitude, atDash}
 use Rattle.grammar.specs.States.State.{atPlace}
-use Rattle.grammar.specs.Steps.{after}
-use Rattle.passages.specs.Going.{Goes, wordFrom, WordAt}
+use Rattle.grammar.specs.Steps.{closingAt, after}
+use Rattle.passages.specs.Going.{wordFrom, WordAt}
+use Rattle.passages.specs.Leading.{Leads, Stands, Judged, TakesFixed}
+use Rattle.passages.specs.declared.steps.Step.{Step}
 use Rattle.passages.specs.Outlines.{Points, FollowsSays, ClosesSays, LatitudeSays, LongitudeSays, PointSays}
 use Rattle.passages.specs.Locations.{LocatedSays}
 use Rattle.passages.proofs.Tells.{latitude-told, longitude-told}
-use Rattle.passages.proofs.Chains.{off}
-use Rattle.passages.proofs.Chains as chains
+use Rattle.passages.proofs.FixedWords.{fixed-dash}
 use Rattle.passages.proofs.Going.{some-word}
-use Rattle.passages.proofs.KindLaws.{part-is, goes-word, dead-word, required-yes, required-no}
-use Rattle.passages.proofs.Sides.{on-step, there-step, nowhere-step, required-on}
+use Rattle.passages.proofs.KindLaws.{part-is, goes-word, dead-word}
+use Rattle.passages.proofs.Leads.{then, over, nothing, judged-leads, judged-good, takes, told-good, standing}
+use Rattle.passages.proofs.Sides.{on-step, there-step, nowhere-step, takes-on, fixed-on}
 
 module _ {first : Point} {count : ℕ} where
   -- no point so far
@@ -74,29 +76,13 @@ module _ {first : Point} {count : ℕ} where
 abbrev follows : List Point → Coordinate → Bool
 follows ps d = both (goodCoordinate northSouth d) (mayFollow ps d)
 
-module _ {t : List ℕ} {at start end : ℕ} (h : at ≤ length t) (w : WordAt t at start end) {first : Point} {count refusal : ℕ} {c : Coordinate}
-    (e : c ≡ coordinateOf northSouth (part start end t)) where
-  latitude-no : ((ps : List Point) → Points first count ps → follows ps c ≡ false) → LatitudeSays first count refusal t at refusal start c
-  latitude-no bad = record {
-    says = λ ps k. required-no h w (coordinateOf northSouth) (follows ps) refusal c e (bad ps k);
-    within = omega (arith, w .ordered, w .within);
-  }
-
-  -- no latitude
-  pub latitude-bad : c .letter ≡ 0 → LatitudeSays first count refusal t at refusal start c
-  latitude-bad z = latitude-no (λ ps k. both-false-left _ (latitude-told .bad _ c e z))
-
-  -- not that of point 1, where there is no room for another point
-  module _ {f : Bool} (may : FollowsSays first count c f) where
-    pub latitude-late : f ≡ false → LatitudeSays first count refusal t at refusal start c
-    latitude-late n = latitude-no (λ ps k. both-false-right (goodCoordinate northSouth c) (sym (may .says ps k) ∙ n))
-
-    pub latitude-yes : (c .letter ≡ 0 → ⊥) → f ≡ true → LatitudeSays first count refusal t at 0 end c
-    latitude-yes z y = record {
-      says = λ ps k. required-yes h w (coordinateOf northSouth) (follows ps) refusal c e (both-false-left _ (latitude-told .end))
-          (both-true (latitude-told .fine _ c e z) (sym (may .says ps k) ∙ y));
-      within = w .within;
-    }
+pub latitude-says : {t : List ℕ} {from to : Step} {first : Point} {count refusal : ℕ} {c : Coordinate} {g may : Bool} → Stands t from
+    → c ≡ coordinateOf northSouth (part (from .place) (from .end) t) → FollowsSays first count c may → g ≡ both (not (eqb (c .letter) 0)) may → Judged t from g refusal to
+    → LatitudeSays first count refusal t from to c
+latitude-says f e may b j = record {
+  says = λ ps k. takes f j (both-false-left _ (latitude-told .end)) e (b ∙ rw (told-good latitude-told _ _ e, may .says ps k));
+  stands = j .stands;
+}
 
 -- two choices of which the first is made twice
 picked : (good closed enough room : Bool) (x y : Placed)
@@ -106,67 +92,66 @@ picked true false enough room x y = refl
 picked false closed enough room x y = refl
 
 -- its longitude
-module _ {t : List ℕ} {at start end : ℕ} (h : at ≤ length t) (w : WordAt t at start end) {first : Point} {count : ℕ} {p : Point}
+east-is : {t : List ℕ} {at start end : ℕ} {c : Coordinate} → WordAt t at start end → c ≡ coordinateOf eastWest (part start end t) → coordinateOf eastWest (wordFrom t at) ≡ c
+east-is w e = sym (e ∙ ap (coordinateOf eastWest) (part-is w))
+
+module _ {t : List ℕ} {at start end : ℕ} (w : WordAt t at start end) {first : Point} {count : ℕ} {p : Point}
     (e : p .longitude ≡ coordinateOf eastWest (part start end t)) {closed fits : Bool} (shut : ClosesSays first count p closed)
     (fit : fits ≡ pick closed (leb leastPoints (count + 1)) (ltb (count + 1) mostPoints)) where
-  east-is : coordinateOf eastWest (wordFrom t at) ≡ p .longitude
-  east-is = sym (e ∙ ap (coordinateOf eastWest) (part-is w))
-
   longitude-step : (closing : ℕ) (ps : List Point) → Points first count ps
       → placeStep closing (atLongitude ps (p .latitude)) (wordFrom t at)
       ≡ pick (both (goodCoordinate eastWest (p .longitude)) fits) (pick closed (there (outlined (ps ++ (p ∷ [])))) (on (atDash (ps ++ (p ∷ []))))) nowhere
   unfolding placeStep pointed
   longitude-step closing ps k =
-      rw (east-is, ← (shut .says ps k), k .counted, fit) (picked (goodCoordinate eastWest (p .longitude)) closed (leb leastPoints (count + 1)) (ltb (count + 1) mostPoints) _ _)
+      rw (east-is w e, ← (shut .says ps k), k .counted, fit) (picked (goodCoordinate eastWest (p .longitude)) closed (leb leastPoints (count + 1)) (ltb (count + 1) mostPoints) _ _)
 
-  -- refused, in which case there is no saying whether there is room
-  longitude-no : {refusal : ℕ} → (refusal ≡ 0 → ⊥) → both (goodCoordinate eastWest (p .longitude)) fits ≡ false → LongitudeSays first count (p .latitude) refusal t at refusal start p closed
-  longitude-no {refusal} some n = record {
-    closing = λ y site ps r k. refused site ps r k _;
-    going = λ y site ps r k. refused site ps r k _;
-    room = λ z y. absurd (some z);
-    within = omega (arith, w .ordered, w .within);
+module _ {t : List ℕ} {from to : Step} {first : Point} {count refusal : ℕ} {p : Point} {closed fits g : Bool} (f : Stands t from)
+    (e : p .longitude ≡ coordinateOf eastWest (part (from .place) (from .end) t)) (shut : ClosesSays first count p closed)
+    (fit : fits ≡ pick closed (leb leastPoints (count + 1)) (ltb (count + 1) mostPoints)) (b : g ≡ both (not (eqb (p .longitude .letter) 0)) fits)
+    (j : Judged t from g refusal to) where
+  good-fits : g ≡ both (goodCoordinate eastWest (p .longitude)) fits
+  good-fits = b ∙ rw (told-good longitude-told _ _ e)
+
+  never : (from .number ≡ 0 → ⊥) → g ≡ false
+  never z =
+      good-fits ∙ both-false-left _ (ap (goodCoordinate eastWest) (e ∙ ap (coordinateOf eastWest) (nothing t _ _ (sym (f .stays z)))) ∙ longitude-told .end)
+
+  some : from .number ≡ 0 → g ≡ true → 0 < length (wordFrom t (from .place))
+  some z y =
+      some-word (λ (x : List ℕ). goodCoordinate eastWest (coordinateOf eastWest x)) (wordFrom t (from .place)) (longitude-told .end)
+      (rw (east-is (f .going z) e) (both-left _ fits (sym good-fits ∙ y)))
+
+  moved : (z : from .number ≡ 0) (site : Site) (ps : List Point) → Points first count ps → placeStep (closingAt site) (atLongitude ps (p .latitude)) (wordFrom t (from .place))
+      ≡ pick g (pick closed (there (outlined (ps ++ (p ∷ [])))) (on (atDash (ps ++ (p ∷ []))))) nowhere
+  moved z site ps k = longitude-step (f .going z) e shut fit (closingAt site) ps k ∙ rw (sym good-fits)
+
+  pub longitude-says : (refusal ≡ 0 → ⊥) → LongitudeSays first count (p .latitude) refusal t from to p closed
+  longitude-says least = record {
+    closing = λ c site ps r k. judged-leads f j never
+        (λ z y. goes-word (standing f) (f .going z) (atPlace site (atLongitude ps (p .latitude))) _ (some z y) (there-step site _ _ (moved z site ps k ∙ rw (y, c))))
+        (λ z y. dead-word (standing f) (f .going z) (atPlace site (atLongitude ps (p .latitude))) _ refusal r (nowhere-step site _ _ (moved z site ps k ∙ rw y)));
+    going = λ c site ps r k. judged-leads f j never
+        (λ z y. goes-word (standing f) (f .going z) (atPlace site (atLongitude ps (p .latitude))) _ (some z y) (on-step site _ _ (moved z site ps k ∙ rw (y, c))))
+        (λ z y. dead-word (standing f) (f .going z) (atPlace site (atLongitude ps (p .latitude))) _ refusal r (nowhere-step site _ _ (moved z site ps k ∙ rw y)));
+    room = λ n c. ltb-true _ _ (sym (fit ∙ rw c) ∙ both-right (goodCoordinate eastWest (p .longitude)) fits (sym good-fits ∙ judged-good f j never least n));
+    stands = j .stands;
   }
-    where
-      refused : (site : Site) (ps : List Point) → locationPart site ≡ refusal → Points first count ps → (next : State)
-          → Goes (atPlace site (atLongitude ps (p .latitude))) t at refusal start next
-      refused site ps r k next = dead-word h w (atPlace site (atLongitude ps (p .latitude))) next refusal r (nowhere-step site _ _ (longitude-step _ ps k ∙ rw n))
-
-  pub longitude-bad : {refusal : ℕ} → (refusal ≡ 0 → ⊥) → p .longitude .letter ≡ 0 → LongitudeSays first count (p .latitude) refusal t at refusal start p closed
-  longitude-bad some z = longitude-no some (both-false-left _ (longitude-told .bad _ (p .longitude) e z))
-
-  pub longitude-unfit : {refusal : ℕ} → (refusal ≡ 0 → ⊥) → fits ≡ false → LongitudeSays first count (p .latitude) refusal t at refusal start p closed
-  longitude-unfit some n = longitude-no some (both-false-right (goodCoordinate eastWest (p .longitude)) n)
-
-  pub longitude-yes : {refusal : ℕ} → (p .longitude .letter ≡ 0 → ⊥) → fits ≡ true → LongitudeSays first count (p .latitude) refusal t at 0 end p closed
-  longitude-yes z y = record {
-    closing = λ c site ps r k. goes-word h w (atPlace site (atLongitude ps (p .latitude))) _ some (there-step site _ _ (longitude-step _ ps k ∙ rw (good, y, c)));
-    going = λ c site ps r k. goes-word h w (atPlace site (atLongitude ps (p .latitude))) _ some (on-step site _ _ (longitude-step _ ps k ∙ rw (good, y, c)));
-    room = λ _ c. ltb-true _ _ (sym (fit ∙ rw c) ∙ y);
-    within = w .within;
-  }
-    where
-      good : goodCoordinate eastWest (p .longitude) ≡ true
-      good = longitude-told .fine _ (p .longitude) e z
-
-      some : 0 < length (wordFrom t at)
-      some = some-word (λ (x : List ℕ). goodCoordinate eastWest (coordinateOf eastWest x)) (wordFrom t at) (longitude-told .end) (rw east-is good)
 
 -- one more point: its latitude, and then its longitude
-module _ {first : Point} {count refusal : ℕ} {t : List ℕ} {at number place : ℕ} {north : Coordinate}
-    (l : LatitudeSays first count refusal t at number place north) (site : Site) (ps : List Point) (n : locationPart site ≡ refusal)
-    (k : Points first count ps) where
-  pub latitude-on : Goes (atPlace site (atLatitude ps)) t at number place (atPlace site (atLongitude ps north))
+module _ {first : Point} {count refusal : ℕ} {t : List ℕ} {from mid : Step} {north : Coordinate} (l : LatitudeSays first count refusal t from mid north)
+    {to : Step} {p : Point} {closed : Bool} (g : LongitudeSays first count north refusal t mid to p closed) (site : Site) (ps : List Point)
+    (n : locationPart site ≡ refusal) (k : Points first count ps) where
+  latitude-on : Leads (atPlace site (atLatitude ps)) t from mid (atPlace site (atLongitude ps north))
   unfolding placeStep
-  latitude-on = required-on (l .says ps k) site (atLatitude ps) n (λ (c : Coordinate). atLongitude ps c) refl
+  latitude-on = takes-on (l .says ps k) site (atLatitude ps) n (λ (c : Coordinate). atLongitude ps c) (λ z. refl)
 
-  module _ (z : number ≡ 0) {number′ place′ : ℕ} {p : Point} {closed : Bool}
-      (g : LongitudeSays first count north refusal t place number′ place′ p closed) where
-    pub point-closing : closed ≡ true → Goes (atPlace site (atLatitude ps)) t at number′ place′ (after site (outlined (ps ++ (p ∷ []))))
-    point-closing e = chains.on latitude-on z (g .closing e site ps n k)
+  pub point-closing : closed ≡ true → Leads (atPlace site (atLatitude ps)) t from to (after site (outlined (ps ++ (p ∷ []))))
+  point-closing e = then latitude-on (g .closing e site ps n k)
 
-    pub point-going : closed ≡ false → Goes (atPlace site (atLatitude ps)) t at number′ place′ (atPlace site (atDash (ps ++ (p ∷ []))))
-    point-going e = chains.on latitude-on z (g .going e site ps n k)
+  pub point-going : closed ≡ false → {last : Step} → TakesFixed 0x012d refusal t to last
+      → Leads (atPlace site (atLatitude ps)) t from last (atPlace site (atLatitude (ps ++ (p ∷ []))))
+  unfolding placeStep
+  point-going e d = then (then latitude-on (g .going e site ps n k)) (fixed-on d fixed-dash site (atDash (ps ++ (p ∷ []))) n (atLatitude (ps ++ (p ∷ []))) (λ z. refl))
 
 -- so many points at the head of the array, and no point behind them
 pub record Filled (ps : List Point) (count : ℕ) (points : List Point) : Type 0 where
@@ -187,47 +172,46 @@ filled-outline : {ps points : List Point} {count : ℕ} → Filled ps count poin
 filled-outline f = λ i. record { location = Outline (f .counted i); points = sym (f .filled) i }
 
 -- what the loop has read
-pub record Gone (t : List ℕ) (at refusal : ℕ) (points : List Point) (count place : ℕ) : Type 0 where
+pub record Gone (t : List ℕ) (from : Step) (refusal : ℕ) (points : List Point) (count : ℕ) (step : Step) : Type 0 where
   pub read : List Point
   pub array : Filled read count points
   pub few : count < mostPoints
-  pub says : (site : Site) → locationPart site ≡ refusal → Goes (atPlace site (atLatitude [])) t at 0 place (atPlace site (atLatitude read))
-  pub within : place ≤ length t
+  pub says : (site : Site) → locationPart site ≡ refusal → Leads (atPlace site (atLatitude [])) t from step (atPlace site (atLatitude read))
+  pub stands : Stands t step
 
-pub gone-none : {t : List ℕ} {at refusal : ℕ} → at ≤ length t → Gone t at refusal (outlined [] .points) 0 at
-gone-none h = record { read = []; array = record { counted = refl; filled = refl }; few = omega arith; says = λ site n. record { says = refl }; within = h }
+pub gone-none : {t : List ℕ} {from : Step} {refusal : ℕ} → Stands t from → Gone t from refusal (outlined [] .points) 0 from
+gone-none h = record { read = []; array = record { counted = refl; filled = refl }; few = omega arith; says = λ site n. record { says = refl }; stands = h }
 
-module _ {t : List ℕ} {at refusal : ℕ} {points : List Point} {count place : ℕ} (g : Gone t at refusal points count place) where
+module _ {t : List ℕ} {from : Step} {refusal : ℕ} {points : List Point} {count : ℕ} {step : Step} (g : Gone t from refusal points count step) where
   so-far : Points (getD points 0 noPoint) count (g .read)
   so-far = record {
     counted = g .array .counted;
     leads = λ some. sym (ap (λ (l : List Point). getD l 0 noPoint) (g .array .filled) ∙ List·getD-append (g .read) _ noPoint 0 (omega (arith, g .array .counted)));
   }
 
-  module _ {number place′ : ℕ} {p : Point} {closed : Bool} (n : PointSays (getD points 0 noPoint) count refusal t place number place′ p closed) where
+  module _ {to : Step} {p : Point} {closed : Bool} (n : PointSays (getD points 0 noPoint) count refusal t step to p closed) where
     more : Filled (g .read ++ (p ∷ [])) (count + 1) (set points count p)
     more = filled-more p (g .array) (g .few)
 
     -- refused, whether or not it would have closed the outline
-    pub gone-refused : (number ≡ 0 → ⊥) → (e : Extent) → LocatedSays (atLatitude []) refusal t at number place′ e
+    pub gone-refused : (to .number ≡ 0 → ⊥) → (e : Extent) → LocatedSays (atLatitude []) refusal t from to e
     gone-refused z e = record {
-      says = λ site k. chains.on (g .says site k) refl
-          (by closed (λ y. off (n .closing y site (g .read) k so-far) z) (λ y. off (n .going y site (g .read) k so-far) z));
-      within = n .within;
+      says = λ site k. then (g .says site k)
+          (by closed (λ y. over z (n .closing y site (g .read) k so-far)) (λ y. over z (n .going y site (g .read) k so-far)));
+      stands = n .stands;
     }
 
-    module _ (z : number ≡ 0) where
-      pub gone-on : closed ≡ false → Gone t at refusal (set points count p) (count + 1) place′
-      gone-on y = record {
-        read = g .read ++ (p ∷ []);
-        array = more;
-        few = n .room z y;
-        says = λ site k. chains.on (g .says site k) refl (rw z at (n .going y site (g .read) k so-far));
-        within = n .within;
-      }
+    pub gone-on : to .number ≡ 0 → closed ≡ false → Gone t from refusal (set points count p) (count + 1) to
+    gone-on z y = record {
+      read = g .read ++ (p ∷ []);
+      array = more;
+      few = n .room z y;
+      says = λ site k. then (g .says site k) (n .going y site (g .read) k so-far);
+      stands = n .stands;
+    }
 
-      pub gone-over : closed ≡ true → LocatedSays (atLatitude []) refusal t at 0 place′ (record { location = Outline (count + 1); points = set points count p })
-      gone-over y = record {
-        says = λ site k. chains.on (g .says site k) refl (rw (z, filled-outline more) at (n .closing y site (g .read) k so-far));
-        within = n .within;
-      }
+    pub gone-over : closed ≡ true → LocatedSays (atLatitude []) refusal t from to (record { location = Outline (count + 1); points = set points count p })
+    gone-over y = record {
+      says = λ site k. then (g .says site k) (rw (filled-outline more) at (n .closing y site (g .read) k so-far));
+      stands = n .stands;
+    }

@@ -1,15 +1,16 @@
 -- One word of a location, in a report and in a forecast alike: what the location does with it is what the machine does. And the letter of a
 -- side, told by the word's code.
 -- Assumes nothing.
-use mathlib.Core.Bool.{Bool, true, false}
+use mathlib.Core.Bool.{Bool, true, false, not}
 use mathlib.Core.List.{List, [], _∷_}
 use mathlib.Core.Path.{_≡_, refl, ap, sym, _∙_}
-use Prim.Native.Nat.{ℕ, _+_, _≤_, _<_}
+use Prim.Native.Nat.{ℕ, _+_, _<_}
 use native.Mathlib.Omega.{arith}
-use lib.ListN.{length, getD}
+use lib.Dec.{eqb}
+use lib.ListN.{getD}
 use borrow.Author.Tests.{lt-ltb, eq-eqb, ne-eqb}
 use Rattle.lists.specs.Base.{worthAfter}
-use Rattle.lists.specs.Lists.{allOf, same}
+use Rattle.lists.specs.Lists.{allOf, part, same}
 use Rattle.lists.proofs.Choice.{by, either-right, either-cases, pick-true, pick-false}
 use Rattle.lists.proofs.Lists.{same-refl, same-is}
 use Rattle.figures.specs.Keywords.{codeOf}
@@ -29,12 +30,15 @@ use Rattle.grammar.specs.States.Site.{inReport, inForecast}
 use Rattle.grammar.specs.States.State.{atPlace}
 use Rattle.grammar.specs.States.Move.{goes, dead}
 use Rattle.grammar.specs.Steps.{goesIf, closingAt, after, stepAfter, settled, step}
-use Rattle.passages.specs.Going.{Goes, wordFrom}
-use Rattle.passages.specs.Kinds.{Required, FixedWord, Fixed, CodeAt}
+use Rattle.passages.specs.Going.{wordFrom}
+use Rattle.passages.specs.Kinds.{FixedWord}
+use Rattle.passages.specs.Leading.{Leads, Stands, Before, Judged, Takes, TakesFixed}
+use Rattle.passages.specs.declared.steps.Step.{Step}
 use Rattle.passages.specs.Locations.{sideIn, SideSays}
 use Rattle.passages.proofs.FixedWords.{fixed-of, fixed-fir, fixed-cta}
 use Rattle.passages.proofs.Going.{some-word}
-use Rattle.passages.proofs.KindLaws.{goes-word}
+use Rattle.passages.proofs.KindLaws.{part-is, goes-word}
+use Rattle.passages.proofs.Leads.{then, whether, nothing, takes, standing, past-leads}
 
 -- the number of what follows a location
 pub following-number : (site : Site) (e : Extent) → numberOf (after site e) ≡ followingPart site
@@ -81,55 +85,48 @@ module _ (site : Site) (p : Placing) (w : List ℕ) where
   there-if-step t e k = ap (settled site w) k ∙ settled-there site w t e
 
 -- a required fixed word inside a location, and one that ends it
-module _ {code refusal : ℕ} {t : List ℕ} {at number place : ℕ} (h : Fixed code refusal t at number place) {k : List ℕ} (f : FixedWord k code)
+module _ {code refusal : ℕ} {t : List ℕ} {from to : Step} (h : TakesFixed code refusal t from to) {k : List ℕ} (f : FixedWord k code)
     (site : Site) (p : Placing) (n : placeNumber site p ≡ refusal) where
-  pub fixed-on : (next : Placing) → placeStep (closingAt site) p (wordFrom t at) ≡ onIf (same (wordFrom t at) k) next
-      → Goes (atPlace site p) t at number place (atPlace site next)
-  fixed-on next j = h .says k f (atPlace site p) (atPlace site next) (on-if-step site p (wordFrom t at) (same (wordFrom t at) k) next j) n
+  pub fixed-on : (next : Placing) → (from .number ≡ 0 → placeStep (closingAt site) p (wordFrom t (from .place)) ≡ onIf (same (wordFrom t (from .place)) k) next)
+      → Leads (atPlace site p) t from to (atPlace site next)
+  fixed-on next j = h .says k f (atPlace site p) (atPlace site next) (λ z. on-if-step site p _ (same (wordFrom t (from .place)) k) next (j z)) n
 
-  pub fixed-there : (e : Extent) → placeStep (closingAt site) p (wordFrom t at) ≡ thereIf (same (wordFrom t at) k) e
-      → Goes (atPlace site p) t at number place (after site e)
-  fixed-there e j = h .says k f (atPlace site p) (after site e) (there-if-step site p (wordFrom t at) (same (wordFrom t at) k) e j) n
+  pub fixed-there : (e : Extent) → (from .number ≡ 0 → placeStep (closingAt site) p (wordFrom t (from .place)) ≡ thereIf (same (wordFrom t (from .place)) k) e)
+      → Leads (atPlace site p) t from to (after site e)
+  fixed-there e j = h .says k f (atPlace site p) (after site e) (λ z. there-if-step site p _ (same (wordFrom t (from .place)) k) e (j z)) n
 
 -- … and such a word of a kind
-module _ {A : Type 0} {read : List ℕ → A} {good : A → Bool} {refusal : ℕ} {t : List ℕ} {at number place : ℕ} {value : A}
-    (h : Required read good refusal t at number place value) (site : Site) (p : Placing) (n : placeNumber site p ≡ refusal) where
-  pub required-on : (next : A → Placing) → placeStep (closingAt site) p (wordFrom t at) ≡ onIf (good (read (wordFrom t at))) (next (read (wordFrom t at)))
-      → Goes (atPlace site p) t at number place (atPlace site (next value))
-  required-on next j =
-      let v : A = read (wordFrom t at) in
-      h .says (atPlace site p) (λ (x : A). atPlace site (next x)) (on-if-step site p (wordFrom t at) (good v) (next v) j) n
+module _ {A : Type 0} {read : List ℕ → A} {good : A → Bool} {refusal : ℕ} {t : List ℕ} {from to : Step} {value : A}
+    (h : Takes read good refusal t from to value) (site : Site) (p : Placing) (n : placeNumber site p ≡ refusal) where
+  pub takes-on : (next : A → Placing)
+      → (from .number ≡ 0 → placeStep (closingAt site) p (wordFrom t (from .place)) ≡ onIf (good (read (wordFrom t (from .place)))) (next (read (wordFrom t (from .place)))))
+      → Leads (atPlace site p) t from to (atPlace site (next value))
+  takes-on next j =
+      let v : A = read (wordFrom t (from .place)) in
+      h .says (atPlace site p) (λ (x : A). atPlace site (next x)) (λ z. on-if-step site p _ (good v) (next v) (j z)) n
 
-  pub required-there : (e : A → Extent) → placeStep (closingAt site) p (wordFrom t at) ≡ thereIf (good (read (wordFrom t at))) (e (read (wordFrom t at)))
-      → Goes (atPlace site p) t at number place (after site (e value))
-  required-there e j =
-      let v : A = read (wordFrom t at) in
-      h .says (atPlace site p) (λ (x : A). after site (e x)) (there-if-step site p (wordFrom t at) (good v) (e v) j) n
+  pub takes-there : (e : A → Extent)
+      → (from .number ≡ 0 → placeStep (closingAt site) p (wordFrom t (from .place)) ≡ thereIf (good (read (wordFrom t (from .place)))) (e (read (wordFrom t (from .place)))))
+      → Leads (atPlace site p) t from to (after site (e value))
+  takes-there e j =
+      let v : A = read (wordFrom t (from .place)) in
+      h .says (atPlace site p) (λ (x : A). after site (e x)) (λ z. there-if-step site p _ (good v) (e v) (j z)) n
 
 -- `OF` and the coordinate of a bound
-module _ {refusal : ℕ} {t : List ℕ} {at number place : ℕ} where
-  pub latitude-of : Fixed 0x014f46 refusal t at number place → (site : Site) {side : ℕ} → locationPart site ≡ refusal
-      → Goes (atPlace site (atLatitudeOf side)) t at number place (atPlace site (atLatitudeBound side))
+module _ {refusal : ℕ} {t : List ℕ} {from mid to : Step} {value : Coordinate} (of : TakesFixed 0x014f46 refusal t from mid) (site : Site) (n : locationPart site ≡ refusal) where
+  pub latitude-bound : Takes (coordinateOf northSouth) (goodCoordinate northSouth) refusal t mid to value → (side : ℕ)
+      → Leads (atPlace site (atLatitudeOf side)) t from to (atPlace site (atAnd (record { of = side; at = value })))
   unfolding placeStep
-  latitude-of h site {side} n = fixed-on h fixed-of site (atLatitudeOf side) n (atLatitudeBound side) refl
+  latitude-bound h side =
+      then (fixed-on of fixed-of site (atLatitudeOf side) n (atLatitudeBound side) (λ z. refl))
+      (takes-on h site (atLatitudeBound side) n (λ (v : Coordinate). atAnd (record { of = side; at = v })) (λ z. refl))
 
-  pub longitude-of : Fixed 0x014f46 refusal t at number place → (site : Site) {north : Side} {side : ℕ} → locationPart site ≡ refusal
-      → Goes (atPlace site (atLongitudeOf north side)) t at number place (atPlace site (atLongitudeBound north side))
+  pub longitude-bound : Takes (coordinateOf eastWest) (goodCoordinate eastWest) refusal t mid to value → (north : Side) (side : ℕ)
+      → Leads (atPlace site (atLongitudeOf north side)) t from to (after site (bounded north (record { of = side; at = value })))
   unfolding placeStep
-  longitude-of h site {north} {side} n = fixed-on h fixed-of site (atLongitudeOf north side) n (atLongitudeBound north side) refl
-
-  module _ {value : Coordinate} where
-    pub latitude-bound : Required (coordinateOf northSouth) (goodCoordinate northSouth) refusal t at number place value → (site : Site) {side : ℕ}
-        → locationPart site ≡ refusal → Goes (atPlace site (atLatitudeBound side)) t at number place (atPlace site (atAnd (record { of = side; at = value })))
-    unfolding placeStep
-    latitude-bound h site {side} n = required-on h site (atLatitudeBound side) n (λ (v : Coordinate). atAnd (record { of = side; at = v })) refl
-
-    pub longitude-bound : Required (coordinateOf eastWest) (goodCoordinate eastWest) refusal t at number place value → (site : Site) {north : Side} {side : ℕ}
-        → locationPart site ≡ refusal
-        → Goes (atPlace site (atLongitudeBound north side)) t at number place (after site (bounded north (record { of = side; at = value })))
-    unfolding placeStep
-    longitude-bound h site {north} {side} n =
-        required-there h site (atLongitudeBound north side) n (λ (v : Coordinate). bounded north (record { of = side; at = v })) refl
+  longitude-bound h north side =
+      then (fixed-on of fixed-of site (atLongitudeOf north side) n (atLongitudeBound north side) (λ z. refl))
+      (takes-there h site (atLongitudeBound north side) n (λ (v : Coordinate). bounded north (record { of = side; at = v })) (λ z. refl))
 
 -- a word of one letter, and its code
 letter-code : (b : ℕ) → b < 256 → FixedWord (b ∷ []) (256 + b)
@@ -166,23 +163,44 @@ module _ {code : ℕ} (plus minus : ℕ) (p : plus < 256) (m : minus < 256) wher
   side-neither e f = record { says = λ w d. rw (letter-not w plus p (λ q. e (d ∙ q)), letter-not w minus m (λ q. f (d ∙ q))) }
 
 -- what that letter tells of the word
-module _ {t : List ℕ} {at start end code letter : ℕ} (h : at ≤ length t) (c : CodeAt t at start end code) (a : Axis)
-    (s : SideSays code (a .plus) (a .minus) letter) where
-  letter-is : letter ≡ sideIn (a .plus) (a .minus) (wordFrom t at)
-  letter-is = s .says (wordFrom t at) (c .coded)
+side-some : (a : Axis) (w : List ℕ) → 0 < a .plus → 0 < a .minus → not (eqb (sideIn (a .plus) (a .minus) w) 0) ≡ sideWord a w
+side-some a w p m =
+    by (sideWord a w) (λ y. rw (pick-true (getD w 0 0) 0 y, ne-eqb (getD w 0 0) 0 (some-letter a w p m y)) (sym y)) (λ y. rw (pick-false (getD w 0 0) 0 y) (sym y))
 
-  pub side-no : 0 < a .plus → 0 < a .minus → letter ≡ 0 → sideWord a (wordFrom t at) ≡ false
-  side-no p m z = by (sideWord a (wordFrom t at)) (λ y. absurd (some-letter a (wordFrom t at) p m y (sym (letter-is ∙ pick-true _ _ y) ∙ z))) (λ n. n)
+pub side-if : (a : Axis) (w : List ℕ) → 0 < a .plus → 0 < a .minus → (next : ℕ → Placing)
+    → onIf (sideWord a w) (next (getD w 0 0)) ≡ onIf (not (eqb (sideIn (a .plus) (a .minus) w) 0)) (next (sideIn (a .plus) (a .minus) w))
+side-if a w p m next =
+    rw (side-some a w p m) (by (sideWord a w) (λ y. rw (y)) (λ y. rw (y)))
 
-  pub side-on : (letter ≡ 0 → ⊥) → (site : Site) (p : Placing) (next : ℕ → Placing)
-      → (sideWord a (wordFrom t at) ≡ true → placeStep (closingAt site) p (wordFrom t at) ≡ on (next (getD (wordFrom t at) 0 0)))
-      → Goes (atPlace site p) t at 0 end (atPlace site (next letter))
+module _ {t : List ℕ} {from : Step} {code letter : ℕ} (f : Stands t from) (e : code ≡ codeOf (part (from .place) (from .end) t)) (a : Axis)
+    (s : SideSays code (a .plus) (a .minus) letter) (p : 0 < a .plus) (m : 0 < a .minus) where
+  -- the letter as the value of a word: 0 is none
+  pub takes-side : {to : Step} {refusal : ℕ} → Judged t from (not (eqb letter 0)) refusal to
+      → Takes (sideIn (a .plus) (a .minus)) (λ (l : ℕ). not (eqb l 0)) refusal t from to letter
   unfolding same
-  side-on n site p next j =
-      by (sideWord a (wordFrom t at))
-      (λ y. goes-word h (c .word) (atPlace site p) (atPlace site (next letter)) (some-word (sideWord a) (wordFrom t at) refl y)
-      (on-step site p (wordFrom t at) (j y ∙ ap (λ (x : ℕ). on (next x)) (sym (letter-is ∙ pick-true _ _ y)))))
-      (λ f. absurd (n (letter-is ∙ pick-false _ _ f)))
+  takes-side j = takes f j refl (s .says _ e) refl
+
+  -- a letter is a word, so nothing was refused before it
+  pub side-going : (letter ≡ 0 → ⊥) → from .number ≡ 0
+  unfolding same
+  side-going y = whether (from .number) (λ z. z)
+      (λ z. absurd (y (s .says _ e ∙ ap (sideIn (a .plus) (a .minus)) (nothing t _ _ (sym (f .stays z))))))
+
+  letter-is : from .number ≡ 0 → letter ≡ sideIn (a .plus) (a .minus) (wordFrom t (from .place))
+  letter-is z = s .says _ e ∙ ap (sideIn (a .plus) (a .minus)) (part-is (f .going z))
+
+  pub side-no : from .number ≡ 0 → letter ≡ 0 → sideWord a (wordFrom t (from .place)) ≡ false
+  side-no z y = sym (side-some a (wordFrom t (from .place)) p m) ∙ rw (sym (letter-is z), y)
+
+  pub side-on : {to : Step} → (letter ≡ 0 → ⊥) → Before t (from .end) to → (site : Site) (q : Placing) (next : ℕ → Placing)
+      → (sideWord a (wordFrom t (from .place)) ≡ true → placeStep (closingAt site) q (wordFrom t (from .place)) ≡ on (next (getD (wordFrom t (from .place)) 0 0)))
+      → Leads (atPlace site q) t from to (atPlace site (next letter))
+  unfolding same
+  side-on y past′ site q next j =
+      let z : from .number ≡ 0 = side-going y in
+      let yes : sideWord a (wordFrom t (from .place)) ≡ true = sym (side-some a (wordFrom t (from .place)) p m) ∙ rw (sym (letter-is z), ne-eqb letter 0 y) in
+      past-leads f z (goes-word (standing f) (f .going z) (atPlace site q) (atPlace site (next letter)) (some-word (sideWord a) (wordFrom t (from .place)) refl yes)
+      (on-step site q _ (j yes ∙ ap (λ (x : ℕ). on (next x)) (sym (letter-is z ∙ pick-true _ _ yes))))) past′
 
 -- the word after `ENTIRE`
 pub entire-cta : (closing : ℕ) → closing ≡ cta → FixedWord (entireWord closing) 0x01435441

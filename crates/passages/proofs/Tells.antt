@@ -2,15 +2,14 @@
 -- Assumes nothing.
 use mathlib.Core.Bool.{Bool, true, false}
 use mathlib.Core.List.{List, []}
-use mathlib.Core.Path.{_≡_, refl, ap, sym, _∙_}
+use mathlib.Core.Path.{_≡_, refl}
 use Prim.Native.Nat.{ℕ, _≤_, _^_}
 use native.Mathlib.Omega.{arith}
 use lib.Dec.{ltb, eqb, lit<}
-use lib.ListN.{length}
 use borrow.Author.Tests.{ne-eqb}
 use Rattle.lists.specs.Base.{worthAfter, places}
 use Rattle.lists.specs.Choice.{both, either}
-use Rattle.lists.specs.Lists.{allOf, part, indexOf, same}
+use Rattle.lists.specs.Lists.{allOf, indexOf, same}
 use Rattle.lists.proofs.Choice.{clash, both-false-left, both-false-right, either-false}
 use Rattle.words.specs.Bytes.{letter, between}
 use Rattle.figures.specs.Figures.{figuresOf}
@@ -39,14 +38,9 @@ use Rattle.motions.specs.declared.Speed.{Speed}
 use Rattle.motions.proofs.MotionLaws.{compass-reads, speed-reads, intensity-reads}
 use Rattle.names.specs.Names.{closingWords, closingOf, goodClosing}
 use Rattle.names.proofs.NameLaws.{closing-reads}
-use Rattle.grammar.specs.States.State.{atCorrection, atUnit}
-use Rattle.grammar.specs.Steps.{step, cancels}
+use Rattle.grammar.specs.Steps.{cancels}
 use Rattle.passages.specs.Endings.{forecastTime}
-use Rattle.passages.specs.Going.{wordFrom, WordAt}
-use Rattle.passages.specs.Heads.{CorrectionSays}
-use Rattle.passages.specs.Kinds.{Required}
-use Rattle.passages.proofs.Going.{some-word}
-use Rattle.passages.proofs.KindLaws.{part-is, goes-word, same-word, required-yes, required-no, field-yes, field-no}
+use Rattle.passages.proofs.KindLaws.{field-yes, field-no}
 
 -- a kind that a field tells: a word's value is good exactly where the field is not the number of none, and the `=` is no word of the kind
 pub record Told {A : Type 0} (read : List ℕ → A) (good : A → Bool) (field : A → ℕ) (none : ℕ) : Type 0 where
@@ -57,15 +51,6 @@ pub record Told {A : Type 0} (read : List ℕ → A) (good : A → Bool) (field 
 told-by : {A : Type 0} {read : List ℕ → A} {spell : A → List ℕ} {good : A → Bool} {none : A} → Reads read spell good none → (field : A → ℕ)
     → ((v : A) → good v ≡ true → field v ≡ field none → ⊥) → good (read []) ≡ false → Told read good field (field none)
 told-by r field tells none = record { bad = field-no r field tells; fine = field-yes r field tells; end = none }
-
--- what the code has found of a required word, by its field
-module _ {A : Type 0} {read : List ℕ → A} {good : A → Bool} {field : A → ℕ} {none : ℕ} (k : Told read good field none) {t : List ℕ} {at start end refusal : ℕ} {v : A}
-    (h : at ≤ length t) (w : WordAt t at start end) (e : v ≡ read (part start end t)) where
-  pub told-no : field v ≡ none → Required read good refusal t at refusal start v
-  told-no z = required-no h w read good refusal v e (k .bad _ v e z)
-
-  pub told-yes : (field v ≡ none → ⊥) → Required read good refusal t at 0 end v
-  told-yes z = required-yes h w read good refusal v e (k .end) (k .fine _ v e z)
 
 -- four letters, and four letters and a hyphen
 letters-some : (n : ℕ) → goodLetters 4 n ≡ true → n ≡ 0 → ⊥
@@ -231,27 +216,3 @@ cancelled-none l s = both-false-left _ period-none
 
 pub forecast-none : (end : Time) → forecastTime end (timeOf []) ≡ false
 forecast-none end = both-false-left _ time-none
-
--- a correction, or the word is judged as the unit
-module _ {t : List ℕ} {at start end v : ℕ} (h : at ≤ length t) (w : WordAt t at start end) (e : v ≡ correctionOf (part start end t)) where
-  corrected : v ≡ correctionOf (wordFrom t at)
-  corrected = e ∙ ap correctionOf (part-is w)
-
-  pub correction-no : v ≡ 0 → CorrectionSays t at at v
-  unfolding step
-  correction-no z = record {
-    says = λ d c g.
-        let other : goodCorrection (correctionOf (wordFrom t at)) ≡ false = correction-told .bad (wordFrom t at) _ refl (sym corrected ∙ z) in
-        same-word h w (atCorrection d c g) (atUnit (record { designator = d; centre = c; sent = g; correction = v })) refl (rw (other, z));
-    within = h;
-  }
-
-  pub correction-yes : (v ≡ 0 → ⊥) → CorrectionSays t at end v
-  unfolding step
-  correction-yes z = record {
-    says = λ d c g.
-        let good : goodCorrection (correctionOf (wordFrom t at)) ≡ true = correction-told .fine (wordFrom t at) _ refl (λ q. z (corrected ∙ q)) in
-        goes-word h w (atCorrection d c g) (atUnit (record { designator = d; centre = c; sent = g; correction = v }))
-        (some-word (λ (x : List ℕ). goodCorrection (correctionOf x)) _ (correction-told .end) good) (rw (good, corrected));
-    within = w .within;
-  }

@@ -1,5 +1,6 @@
 pub mod Going
 pub mod Kinds
+pub mod Leading
 pub mod Heads
 pub mod Naming
 pub mod Forms

@@ -14,6 +14,8 @@ use Rattle.grammar.specs.States.{State, Move}
 use Rattle.grammar.specs.States.Move.{goes}
 use Rattle.grammar.specs.Steps.{goesIf, grown, begun, goneOn, step}
 use Rattle.passages.specs.Going.{Goes, wordFrom}
+use Rattle.passages.specs.Leading.{Stands, Leads}
+use Rattle.passages.specs.declared.steps.Step.{Step}
 
 -- a name with one more word
 pub record GrownSays (before : Name) (w : List ℕ) (name : Name) : Type 0 where
@@ -41,10 +43,18 @@ pub record TakesName (mountain : Bool) (limit refusal : ℕ) (first : State) (mo
   pub goes-on : (x w : List ℕ) → step (more x) w ≡ pick (goneOn mountain limit x w) (goes (more (grown x w))) (closed x w)
   pub first-number : numberOf first ≡ refusal
 
--- a whole name: then the next word is none of it
-pub record NameSays (mountain : Bool) (limit refusal : ℕ) (t : List ℕ) (at number place : ℕ) (name : Name) : Type 0 where
+-- a whole name from a place on: then the next word is none of it
+pub record NameFrom (mountain : Bool) (limit refusal : ℕ) (t : List ℕ) (at number place : ℕ) (name : Name) : Type 0 where
   pub says : (first : State) (more : List ℕ → State) (closed : List ℕ → List ℕ → Move) → TakesName mountain limit refusal first more closed
       → Goes first t at number place (more (take (name .count) (name .bytes)))
   pub named : number ≡ 0 → name ≡ nameOf (take (name .count) (name .bytes))
   pub stops : number ≡ 0 → goneOn mountain limit (take (name .count) (name .bytes)) (wordFrom t place) ≡ false
   pub within : place ≤ length t
+
+-- the same from a step on
+pub record NameSays (mountain : Bool) (limit refusal : ℕ) (t : List ℕ) (from to : Step) (name : Name) : Type 0 where
+  pub says : (first : State) (more : List ℕ → State) (closed : List ℕ → List ℕ → Move) → TakesName mountain limit refusal first more closed
+      → Leads first t from to (more (take (name .count) (name .bytes)))
+  pub named : to .number ≡ 0 → name ≡ nameOf (take (name .count) (name .bytes))
+  pub stops : to .number ≡ 0 → goneOn mountain limit (take (name .count) (name .bytes)) (wordFrom t (to .place)) ≡ false
+  pub stands : Stands t to

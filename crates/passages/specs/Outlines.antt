@@ -3,7 +3,7 @@
 use mathlib.Core.Bool.{Bool, true, false}
 use mathlib.Core.List.{List, [], _∷_, _++_}
 use mathlib.Core.Path.{_≡_}
-use Prim.Native.Nat.{ℕ, _+_, _≤_, _<_}
+use Prim.Native.Nat.{ℕ, _+_, _<_}
 use lib.ListN.{length, getD}
 use Rattle.lists.specs.Choice.{both}
 use Rattle.coordinates.specs.Coordinates.{northSouth, coordinateOf, goodCoordinate}
@@ -18,8 +18,8 @@ use Rattle.grammar.specs.States.{Site}
 use Rattle.grammar.specs.States.Placing.{atLatitude, atLongitude, atDash}
 use Rattle.grammar.specs.States.State.{atPlace}
 use Rattle.grammar.specs.Steps.{after}
-use Rattle.passages.specs.Going.{Goes}
-use Rattle.passages.specs.Kinds.{Required}
+use Rattle.passages.specs.Leading.{Stands, Leads, Takes}
+use Rattle.passages.specs.declared.steps.Step.{Step}
 
 -- the points so far: that many, the first of them at hand
 pub record Points (first : Point) (count : ℕ) (ps : List Point) : Type 0 where
@@ -33,26 +33,26 @@ pub record ClosesSays (first : Point) (count : ℕ) (p : Point) (r : Bool) : Typ
   pub says : (ps : List Point) → Points first count ps → r ≡ closes ps p
 
 -- the latitude of one more point
-pub record LatitudeSays (first : Point) (count refusal : ℕ) (t : List ℕ) (at number place : ℕ) (c : Coordinate) : Type 0 where
+pub record LatitudeSays (first : Point) (count refusal : ℕ) (t : List ℕ) (from to : Step) (c : Coordinate) : Type 0 where
   pub says : (ps : List Point) → Points first count ps
-      → Required (coordinateOf northSouth) (λ (d : Coordinate). both (goodCoordinate northSouth d) (mayFollow ps d)) refusal t at number place c
-  pub within : place ≤ length t
+      → Takes (coordinateOf northSouth) (λ (d : Coordinate). both (goodCoordinate northSouth d) (mayFollow ps d)) refusal t from to c
+  pub stands : Stands t to
 
 -- its longitude: what follows the location comes next where the outline is closed, else the `-`
-pub record LongitudeSays (first : Point) (count : ℕ) (north : Coordinate) (refusal : ℕ) (t : List ℕ) (at number place : ℕ) (p : Point) (closed : Bool)
+pub record LongitudeSays (first : Point) (count : ℕ) (north : Coordinate) (refusal : ℕ) (t : List ℕ) (from to : Step) (p : Point) (closed : Bool)
     : Type 0 where
   pub closing : closed ≡ true → (site : Site) (ps : List Point) → locationPart site ≡ refusal → Points first count ps
-      → Goes (atPlace site (atLongitude ps north)) t at number place (after site (outlined (ps ++ (p ∷ []))))
+      → Leads (atPlace site (atLongitude ps north)) t from to (after site (outlined (ps ++ (p ∷ []))))
   pub going : closed ≡ false → (site : Site) (ps : List Point) → locationPart site ≡ refusal → Points first count ps
-      → Goes (atPlace site (atLongitude ps north)) t at number place (atPlace site (atDash (ps ++ (p ∷ []))))
-  pub room : number ≡ 0 → closed ≡ false → count + 1 < mostPoints
-  pub within : place ≤ length t
+      → Leads (atPlace site (atLongitude ps north)) t from to (atPlace site (atDash (ps ++ (p ∷ []))))
+  pub room : to .number ≡ 0 → closed ≡ false → count + 1 < mostPoints
+  pub stands : Stands t to
 
 -- a whole point, with the `-` after it where the outline is not closed: one more point comes next
-pub record PointSays (first : Point) (count refusal : ℕ) (t : List ℕ) (at number place : ℕ) (p : Point) (closed : Bool) : Type 0 where
+pub record PointSays (first : Point) (count refusal : ℕ) (t : List ℕ) (from to : Step) (p : Point) (closed : Bool) : Type 0 where
   pub closing : closed ≡ true → (site : Site) (ps : List Point) → locationPart site ≡ refusal → Points first count ps
-      → Goes (atPlace site (atLatitude ps)) t at number place (after site (outlined (ps ++ (p ∷ []))))
+      → Leads (atPlace site (atLatitude ps)) t from to (after site (outlined (ps ++ (p ∷ []))))
   pub going : closed ≡ false → (site : Site) (ps : List Point) → locationPart site ≡ refusal → Points first count ps
-      → Goes (atPlace site (atLatitude ps)) t at number place (atPlace site (atLatitude (ps ++ (p ∷ []))))
-  pub room : number ≡ 0 → closed ≡ false → count + 1 < mostPoints
-  pub within : place ≤ length t
+      → Leads (atPlace site (atLatitude ps)) t from to (atPlace site (atLatitude (ps ++ (p ∷ []))))
+  pub room : to .number ≡ 0 → closed ≡ false → count + 1 < mostPoints
+  pub stands : Stands t to

@@ -1,6 +1,5 @@
 // One required word of each kind. A word that is not of the kind is refused by the number given, and its value is not used.
-ghost use Prim.Native.Nat.{_≤_};
-ghost use lib.ListN.{length};
+ghost use Prim.Native.Nat.{_<_};
 ghost use Rattle.figures.specs.Letters.{lettersOf, goodLetters};
 ghost use Rattle.coordinates.specs.Coordinates.{northSouth, eastWest, coordinateOf, goodCoordinate};
 ghost use Rattle.groups.specs.Groups.{groupOf, goodGroup, periodOf, goodPeriod, timeOf, goodTime};
@@ -9,8 +8,9 @@ ghost use Rattle.headings.specs.Sequences.{sequenceOf, goodSequence};
 ghost use Rattle.names.specs.Names.{closingOf, goodClosing};
 ghost use Rattle.motions.specs.Motions.{compassOf, goodCompass, intensityOf, goodIntensity};
 ghost use Rattle.motions.specs.Speeds.{speedOf, goodSpeed};
-ghost use Rattle.passages.specs.Kinds.{Required};
-use crate::fixed::word;
+ghost use Rattle.passages.specs.Leading.{Stands, Takes};
+use crate::steps::Step;
+use crate::steps::judged;
 use coordinates::Coordinate;
 use coordinates::latitude;
 use coordinates::longitude;
@@ -33,360 +33,205 @@ use motions::speed_word;
 use names::closing_word;
 
 pub(crate) struct DesignatorRead {
-    pub number: u8,
-    pub place: usize,
+    pub step: Step,
     pub designator: Designator,
 }
 
 pub(crate) struct LettersRead {
-    pub number: u8,
-    pub place: usize,
+    pub step: Step,
     pub letters: u32,
 }
 
 pub(crate) struct GroupRead {
-    pub number: u8,
-    pub place: usize,
+    pub step: Step,
     pub group: Group,
 }
 
 pub(crate) struct SequenceRead {
-    pub number: u8,
-    pub place: usize,
+    pub step: Step,
     pub sequence: Sequence,
 }
 
 pub(crate) struct PeriodRead {
-    pub number: u8,
-    pub place: usize,
+    pub step: Step,
     pub period: Period,
 }
 
 pub(crate) struct OfficeRead {
-    pub number: u8,
-    pub place: usize,
+    pub step: Step,
     pub office: u32,
 }
 
 pub(crate) struct ClosingRead {
-    pub number: u8,
-    pub place: usize,
+    pub step: Step,
     pub closing: u8,
 }
 
 pub(crate) struct CoordinateRead {
-    pub number: u8,
-    pub place: usize,
+    pub step: Step,
     pub coordinate: Coordinate,
 }
 
 pub(crate) struct TimeRead {
-    pub number: u8,
-    pub place: usize,
+    pub step: Step,
     pub time: Time,
 }
 
 pub(crate) struct CompassRead {
-    pub number: u8,
-    pub place: usize,
+    pub step: Step,
     pub compass: u8,
 }
 
 pub(crate) struct SpeedRead {
-    pub number: u8,
-    pub place: usize,
+    pub step: Step,
     pub speed: Speed,
 }
 
 pub(crate) struct IntensityRead {
-    pub number: u8,
-    pub place: usize,
+    pub step: Step,
     pub intensity: u8,
 }
 
-pub(crate) fn designator_at(text: &[u8], at: usize, refusal: u8) -> DesignatorRead
-    requires { ⌜ at ≤ length (now text) ⌝ }
-    ensures { λ r. ⌜ Required designatorOf goodDesignator refusal (now (text .entry)) at (r .number) (r .place) (r .designator) ⌝ }
+pub(crate) fn designator_at(text: &[u8], from: Step, refusal: u8) -> DesignatorRead
+    requires { ⌜ (Stands (now text) from) × (0 < refusal) ⌝ }
+    ensures { λ r. ⌜ Takes designatorOf goodDesignator refusal (now (text .entry)) from (r .step) (r .designator) ⌝ }
 {
-    let next = word(text, at);
-    let start = next.start;
-    let end = next.end;
+    let start = from.place;
+    let end = from.end;
     let designator = designator_word(&text[start..end]);
-    if designator.kind == 0 {
-        return DesignatorRead {
-            number: refusal,
-            place: start,
-            designator,
-        };
-    }
-    DesignatorRead {
-        number: 0,
-        place: end,
-        designator,
-    }
+    let step = judged(text, from, designator.kind != 0, refusal);
+    DesignatorRead { step, designator }
 }
 
-pub(crate) fn letters_at(text: &[u8], at: usize, refusal: u8) -> LettersRead
-    requires { ⌜ at ≤ length (now text) ⌝ }
-    ensures { λ r. ⌜ Required (lettersOf 4) (goodLetters 4) refusal (now (text .entry)) at (r .number) (r .place) (r .letters) ⌝ }
+pub(crate) fn letters_at(text: &[u8], from: Step, refusal: u8) -> LettersRead
+    requires { ⌜ (Stands (now text) from) × (0 < refusal) ⌝ }
+    ensures { λ r. ⌜ Takes (lettersOf 4) (goodLetters 4) refusal (now (text .entry)) from (r .step) (r .letters) ⌝ }
 {
-    let next = word(text, at);
-    let start = next.start;
-    let end = next.end;
+    let start = from.place;
+    let end = from.end;
     let letters = letters(&text[start..end], 4);
-    if letters == 0 {
-        return LettersRead {
-            number: refusal,
-            place: start,
-            letters,
-        };
-    }
-    LettersRead {
-        number: 0,
-        place: end,
-        letters,
-    }
+    let step = judged(text, from, letters != 0, refusal);
+    LettersRead { step, letters }
 }
 
-pub(crate) fn group_at(text: &[u8], at: usize, refusal: u8) -> GroupRead
-    requires { ⌜ at ≤ length (now text) ⌝ }
-    ensures { λ r. ⌜ Required groupOf goodGroup refusal (now (text .entry)) at (r .number) (r .place) (r .group) ⌝ }
+pub(crate) fn group_at(text: &[u8], from: Step, refusal: u8) -> GroupRead
+    requires { ⌜ (Stands (now text) from) × (0 < refusal) ⌝ }
+    ensures { λ r. ⌜ Takes groupOf goodGroup refusal (now (text .entry)) from (r .step) (r .group) ⌝ }
 {
-    let next = word(text, at);
-    let start = next.start;
-    let end = next.end;
+    let start = from.place;
+    let end = from.end;
     let group = group_word(&text[start..end]);
-    if group.day == 0 {
-        return GroupRead {
-            number: refusal,
-            place: start,
-            group,
-        };
-    }
-    GroupRead {
-        number: 0,
-        place: end,
-        group,
-    }
+    let step = judged(text, from, group.day != 0, refusal);
+    GroupRead { step, group }
 }
 
-pub(crate) fn sequence_at(text: &[u8], at: usize, refusal: u8) -> SequenceRead
-    requires { ⌜ at ≤ length (now text) ⌝ }
-    ensures { λ r. ⌜ Required sequenceOf goodSequence refusal (now (text .entry)) at (r .number) (r .place) (r .sequence) ⌝ }
+pub(crate) fn sequence_at(text: &[u8], from: Step, refusal: u8) -> SequenceRead
+    requires { ⌜ (Stands (now text) from) × (0 < refusal) ⌝ }
+    ensures { λ r. ⌜ Takes sequenceOf goodSequence refusal (now (text .entry)) from (r .step) (r .sequence) ⌝ }
 {
-    let next = word(text, at);
-    let start = next.start;
-    let end = next.end;
+    let start = from.place;
+    let end = from.end;
     let sequence = sequence_word(&text[start..end]);
-    if sequence.digits == 0 {
-        return SequenceRead {
-            number: refusal,
-            place: start,
-            sequence,
-        };
-    }
-    SequenceRead {
-        number: 0,
-        place: end,
-        sequence,
-    }
+    let step = judged(text, from, sequence.digits != 0, refusal);
+    SequenceRead { step, sequence }
 }
 
-pub(crate) fn period_at(text: &[u8], at: usize, refusal: u8) -> PeriodRead
-    requires { ⌜ at ≤ length (now text) ⌝ }
-    ensures { λ r. ⌜ Required periodOf goodPeriod refusal (now (text .entry)) at (r .number) (r .place) (r .period) ⌝ }
+pub(crate) fn period_at(text: &[u8], from: Step, refusal: u8) -> PeriodRead
+    requires { ⌜ (Stands (now text) from) × (0 < refusal) ⌝ }
+    ensures { λ r. ⌜ Takes periodOf goodPeriod refusal (now (text .entry)) from (r .step) (r .period) ⌝ }
 {
-    let next = word(text, at);
-    let start = next.start;
-    let end = next.end;
+    let start = from.place;
+    let end = from.end;
     let period = period_word(&text[start..end]);
-    let from = period.from;
-    if from.day == 0 {
-        return PeriodRead {
-            number: refusal,
-            place: start,
-            period,
-        };
-    }
-    PeriodRead {
-        number: 0,
-        place: end,
-        period,
-    }
+    let first = period.from;
+    let step = judged(text, from, first.day != 0, refusal);
+    PeriodRead { step, period }
 }
 
-pub(crate) fn office_at(text: &[u8], at: usize, refusal: u8) -> OfficeRead
-    requires { ⌜ at ≤ length (now text) ⌝ }
-    ensures { λ r. ⌜ Required officeOf (goodLetters 4) refusal (now (text .entry)) at (r .number) (r .place) (r .office) ⌝ }
+pub(crate) fn office_at(text: &[u8], from: Step, refusal: u8) -> OfficeRead
+    requires { ⌜ (Stands (now text) from) × (0 < refusal) ⌝ }
+    ensures { λ r. ⌜ Takes officeOf (goodLetters 4) refusal (now (text .entry)) from (r .step) (r .office) ⌝ }
 {
-    let next = word(text, at);
-    let start = next.start;
-    let end = next.end;
+    let start = from.place;
+    let end = from.end;
     let office = office_word(&text[start..end]);
-    if office == 0 {
-        return OfficeRead {
-            number: refusal,
-            place: start,
-            office,
-        };
-    }
-    OfficeRead {
-        number: 0,
-        place: end,
-        office,
-    }
+    let step = judged(text, from, office != 0, refusal);
+    OfficeRead { step, office }
 }
 
-pub(crate) fn closing_at(text: &[u8], at: usize, refusal: u8) -> ClosingRead
-    requires { ⌜ at ≤ length (now text) ⌝ }
-    ensures { λ r. ⌜ Required closingOf goodClosing refusal (now (text .entry)) at (r .number) (r .place) (r .closing) ⌝ }
+pub(crate) fn closing_at(text: &[u8], from: Step, refusal: u8) -> ClosingRead
+    requires { ⌜ (Stands (now text) from) × (0 < refusal) ⌝ }
+    ensures { λ r. ⌜ Takes closingOf goodClosing refusal (now (text .entry)) from (r .step) (r .closing) ⌝ }
 {
-    let next = word(text, at);
-    let start = next.start;
-    let end = next.end;
+    let start = from.place;
+    let end = from.end;
     let closing = closing_word(&text[start..end]);
-    if closing == 0 {
-        return ClosingRead {
-            number: refusal,
-            place: start,
-            closing,
-        };
-    }
-    ClosingRead {
-        number: 0,
-        place: end,
-        closing,
-    }
+    let step = judged(text, from, closing != 0, refusal);
+    ClosingRead { step, closing }
 }
 
-pub(crate) fn latitude_at(text: &[u8], at: usize, refusal: u8) -> CoordinateRead
-    requires { ⌜ at ≤ length (now text) ⌝ }
-    ensures { λ r. ⌜ Required (coordinateOf northSouth) (goodCoordinate northSouth) refusal (now (text .entry)) at (r .number) (r .place) (r .coordinate) ⌝ }
+pub(crate) fn latitude_at(text: &[u8], from: Step, refusal: u8) -> CoordinateRead
+    requires { ⌜ (Stands (now text) from) × (0 < refusal) ⌝ }
+    ensures { λ r. ⌜ Takes (coordinateOf northSouth) (goodCoordinate northSouth) refusal (now (text .entry)) from (r .step) (r .coordinate) ⌝ }
 {
-    let next = word(text, at);
-    let start = next.start;
-    let end = next.end;
+    let start = from.place;
+    let end = from.end;
     let coordinate = latitude(&text[start..end]);
-    if coordinate.letter == 0 {
-        return CoordinateRead {
-            number: refusal,
-            place: start,
-            coordinate,
-        };
-    }
-    CoordinateRead {
-        number: 0,
-        place: end,
-        coordinate,
-    }
+    let step = judged(text, from, coordinate.letter != 0, refusal);
+    CoordinateRead { step, coordinate }
 }
 
-pub(crate) fn longitude_at(text: &[u8], at: usize, refusal: u8) -> CoordinateRead
-    requires { ⌜ at ≤ length (now text) ⌝ }
-    ensures { λ r. ⌜ Required (coordinateOf eastWest) (goodCoordinate eastWest) refusal (now (text .entry)) at (r .number) (r .place) (r .coordinate) ⌝ }
+pub(crate) fn longitude_at(text: &[u8], from: Step, refusal: u8) -> CoordinateRead
+    requires { ⌜ (Stands (now text) from) × (0 < refusal) ⌝ }
+    ensures { λ r. ⌜ Takes (coordinateOf eastWest) (goodCoordinate eastWest) refusal (now (text .entry)) from (r .step) (r .coordinate) ⌝ }
 {
-    let next = word(text, at);
-    let start = next.start;
-    let end = next.end;
+    let start = from.place;
+    let end = from.end;
     let coordinate = longitude(&text[start..end]);
-    if coordinate.letter == 0 {
-        return CoordinateRead {
-            number: refusal,
-            place: start,
-            coordinate,
-        };
-    }
-    CoordinateRead {
-        number: 0,
-        place: end,
-        coordinate,
-    }
+    let step = judged(text, from, coordinate.letter != 0, refusal);
+    CoordinateRead { step, coordinate }
 }
 
-pub(crate) fn time_at(text: &[u8], at: usize, refusal: u8) -> TimeRead
-    requires { ⌜ at ≤ length (now text) ⌝ }
-    ensures { λ r. ⌜ Required timeOf goodTime refusal (now (text .entry)) at (r .number) (r .place) (r .time) ⌝ }
+pub(crate) fn time_at(text: &[u8], from: Step, refusal: u8) -> TimeRead
+    requires { ⌜ (Stands (now text) from) × (0 < refusal) ⌝ }
+    ensures { λ r. ⌜ Takes timeOf goodTime refusal (now (text .entry)) from (r .step) (r .time) ⌝ }
 {
-    let next = word(text, at);
-    let start = next.start;
-    let end = next.end;
+    let start = from.place;
+    let end = from.end;
     let time = time_word(&text[start..end]);
-    if time.hour == 24 {
-        return TimeRead {
-            number: refusal,
-            place: start,
-            time,
-        };
-    }
-    TimeRead {
-        number: 0,
-        place: end,
-        time,
-    }
+    let step = judged(text, from, time.hour != 24, refusal);
+    TimeRead { step, time }
 }
 
-pub(crate) fn compass_at(text: &[u8], at: usize, refusal: u8) -> CompassRead
-    requires { ⌜ at ≤ length (now text) ⌝ }
-    ensures { λ r. ⌜ Required compassOf goodCompass refusal (now (text .entry)) at (r .number) (r .place) (r .compass) ⌝ }
+pub(crate) fn compass_at(text: &[u8], from: Step, refusal: u8) -> CompassRead
+    requires { ⌜ (Stands (now text) from) × (0 < refusal) ⌝ }
+    ensures { λ r. ⌜ Takes compassOf goodCompass refusal (now (text .entry)) from (r .step) (r .compass) ⌝ }
 {
-    let next = word(text, at);
-    let start = next.start;
-    let end = next.end;
+    let start = from.place;
+    let end = from.end;
     let compass = compass_word(&text[start..end]);
-    if compass == 16 {
-        return CompassRead {
-            number: refusal,
-            place: start,
-            compass,
-        };
-    }
-    CompassRead {
-        number: 0,
-        place: end,
-        compass,
-    }
+    let step = judged(text, from, compass != 16, refusal);
+    CompassRead { step, compass }
 }
 
-pub(crate) fn speed_at(text: &[u8], at: usize, refusal: u8) -> SpeedRead
-    requires { ⌜ at ≤ length (now text) ⌝ }
-    ensures { λ r. ⌜ Required speedOf goodSpeed refusal (now (text .entry)) at (r .number) (r .place) (r .speed) ⌝ }
+pub(crate) fn speed_at(text: &[u8], from: Step, refusal: u8) -> SpeedRead
+    requires { ⌜ (Stands (now text) from) × (0 < refusal) ⌝ }
+    ensures { λ r. ⌜ Takes speedOf goodSpeed refusal (now (text .entry)) from (r .step) (r .speed) ⌝ }
 {
-    let next = word(text, at);
-    let start = next.start;
-    let end = next.end;
+    let start = from.place;
+    let end = from.end;
     let speed = speed_word(&text[start..end]);
-    if speed.unit == 0 {
-        return SpeedRead {
-            number: refusal,
-            place: start,
-            speed,
-        };
-    }
-    SpeedRead {
-        number: 0,
-        place: end,
-        speed,
-    }
+    let step = judged(text, from, speed.unit != 0, refusal);
+    SpeedRead { step, speed }
 }
 
-pub(crate) fn intensity_at(text: &[u8], at: usize, refusal: u8) -> IntensityRead
-    requires { ⌜ at ≤ length (now text) ⌝ }
-    ensures { λ r. ⌜ Required intensityOf goodIntensity refusal (now (text .entry)) at (r .number) (r .place) (r .intensity) ⌝ }
+pub(crate) fn intensity_at(text: &[u8], from: Step, refusal: u8) -> IntensityRead
+    requires { ⌜ (Stands (now text) from) × (0 < refusal) ⌝ }
+    ensures { λ r. ⌜ Takes intensityOf goodIntensity refusal (now (text .entry)) from (r .step) (r .intensity) ⌝ }
 {
-    let next = word(text, at);
-    let start = next.start;
-    let end = next.end;
+    let start = from.place;
+    let end = from.end;
     let intensity = intensity_word(&text[start..end]);
-    if intensity == 0 {
-        return IntensityRead {
-            number: refusal,
-            place: start,
-            intensity,
-        };
-    }
-    IntensityRead {
-        number: 0,
-        place: end,
-        intensity,
-    }
+    let step = judged(text, from, intensity != 0, refusal);
+    IntensityRead { step, intensity }
 }

@@ -1,50 +1,38 @@
 // Level: one word, or TOP, ABV or TOP ABV and FLnnn.
 ghost use mathlib.Core.Path.{_≡_};
-ghost use Prim.Native.Nat.{_≤_};
-ghost use lib.ListN.{length};
 ghost use Rattle.levels.specs.Levels.{levelOf, goodLevelWord, flight};
 ghost use Rattle.grammar.specs.Steps.{flightOf};
-ghost use Rattle.passages.specs.Kinds.{Required};
+ghost use Rattle.passages.specs.Leading.{Stands, Takes};
 ghost use Rattle.passages.specs.Reports.{flightIn, TopSays, LevelSays};
 use crate::codes;
-use crate::fixed::code_at;
-use crate::fixed::word;
+use crate::steps::Step;
+use crate::steps::code_of;
+use crate::steps::judged;
+use crate::steps::perhaps_at;
+use crate::steps::step_at;
 use levels::Level;
 use levels::empty_level;
 use levels::level_word;
 
 pub(crate) struct LevelRead {
-    pub number: u8,
-    pub place: usize,
+    pub step: Step,
     pub level: Level,
 }
 
 struct FlightRead {
-    pub number: u8,
-    pub place: usize,
+    pub step: Step,
     pub flight: u32,
 }
 
-fn level_at(text: &[u8], at: usize) -> LevelRead
-    requires { ⌜ at ≤ length (now text) ⌝ }
-    ensures { λ r. ⌜ Required levelOf goodLevelWord 10 (now (text .entry)) at (r .number) (r .place) (r .level) ⌝ }
+fn level_at(text: &[u8], from: Step) -> LevelRead
+    requires { ⌜ Stands (now text) from ⌝ }
+    ensures { λ r. ⌜ Takes levelOf goodLevelWord 10 (now (text .entry)) from (r .step) (r .level) ⌝ }
 {
-    let next = word(text, at);
-    let start = next.start;
-    let end = next.end;
+    let start = from.place;
+    let end = from.end;
     let level = level_word(&text[start..end]);
-    if empty_level(level) {
-        return LevelRead {
-            number: 10,
-            place: start,
-            level,
-        };
-    }
-    LevelRead {
-        number: 0,
-        place: end,
-        level,
-    }
+    let step = judged(text, from, !empty_level(level), 10);
+    LevelRead { step, level }
 }
 
 // The number of a level that is FLnnn, 0 of any other.
@@ -64,66 +52,53 @@ fn flight_number(level: Level) -> u32
     }
 }
 
-fn flight_at(text: &[u8], at: usize) -> FlightRead
-    requires { ⌜ at ≤ length (now text) ⌝ }
-    ensures { λ r. ⌜ Required flightIn flight 10 (now (text .entry)) at (r .number) (r .place) (r .flight) ⌝ }
+fn flight_at(text: &[u8], from: Step) -> FlightRead
+    requires { ⌜ Stands (now text) from ⌝ }
+    ensures { λ r. ⌜ Takes flightIn flight 10 (now (text .entry)) from (r .step) (r .flight) ⌝ }
 {
-    let next = word(text, at);
-    let start = next.start;
-    let end = next.end;
+    let start = from.place;
+    let end = from.end;
     let level = level_word(&text[start..end]);
     let flight = flight_number(level);
-    if flight == 0 {
-        return FlightRead {
-            number: 10,
-            place: start,
-            flight,
-        };
-    }
-    FlightRead {
-        number: 0,
-        place: end,
-        flight,
-    }
+    let step = judged(text, from, flight != 0, 10);
+    FlightRead { step, flight }
 }
 
 // FLnnn or ABV FLnnn, after TOP.
-fn read_top(text: &[u8], at: usize) -> LevelRead
-    requires { ⌜ at ≤ length (now text) ⌝ }
-    ensures { λ r. ⌜ TopSays (now (text .entry)) at (r .number) (r .place) (r .level) ⌝ }
+fn read_top(text: &[u8], from: Step) -> LevelRead
+    requires { ⌜ Stands (now text) from ⌝ }
+    ensures { λ r. ⌜ TopSays (now (text .entry)) from (r .step) (r .level) ⌝ }
 {
-    let k = code_at(text, at);
-    if k.code == codes::ABV {
-        let above = flight_at(text, k.end);
+    let above = perhaps_at(text, from, codes::ABV);
+    let f = flight_at(text, above.step);
+    let step = f.step;
+    if above.found {
         return LevelRead {
-            number: above.number,
-            place: above.place,
-            level: Level::TopAboveFlight(above.flight),
+            step,
+            level: Level::TopAboveFlight(f.flight),
         };
     }
-    let top = flight_at(text, at);
     LevelRead {
-        number: top.number,
-        place: top.place,
-        level: Level::TopFlight(top.flight),
+        step,
+        level: Level::TopFlight(f.flight),
     }
 }
 
-pub(crate) fn read_level(text: &[u8], at: usize) -> LevelRead
-    requires { ⌜ at ≤ length (now text) ⌝ }
-    ensures { λ r. ⌜ LevelSays (now (text .entry)) at (r .number) (r .place) (r .level) ⌝ }
+pub(crate) fn read_level(text: &[u8], from: Step) -> LevelRead
+    requires { ⌜ Stands (now text) from ⌝ }
+    ensures { λ r. ⌜ LevelSays (now (text .entry)) from (r .step) (r .level) ⌝ }
 {
-    let k = code_at(text, at);
-    if k.code == codes::TOP {
-        return read_top(text, k.end);
+    let code = code_of(text, from);
+    if code == codes::TOP {
+        return read_top(text, step_at(text, from.end));
     }
-    if k.code == codes::ABV {
-        let above = flight_at(text, k.end);
+    if code == codes::ABV {
+        let above = flight_at(text, step_at(text, from.end));
+        let step = above.step;
         return LevelRead {
-            number: above.number,
-            place: above.place,
+            step,
             level: Level::AboveFlight(above.flight),
         };
     }
-    level_at(text, at)
+    level_at(text, from)
 }

@@ -13,7 +13,6 @@ mod codes;
 mod empties;
 mod endings;
 mod first_line;
-mod fixed;
 mod kinds;
 mod levelling;
 mod limits;
@@ -23,36 +22,34 @@ mod observing;
 mod opening;
 mod outlining;
 mod reports;
+mod steps;
 mod testing;
 mod weather;
 
+use areas::read_area;
+use bodies::read_body;
+use first_line::read_line;
 use grammar::Reply;
 use grammar::refusal;
 use message::Record;
+use opening::read_heading;
+use steps::step_at;
 
 // The reply to the text before the first `=`: its record, or 4 to 12 at a word.
 pub fn read_text(text: &[u8]) -> Reply
     ensures { λ r. ⌜ r ≡ replyOf (runAt atDesignator (now (text .entry)) 0) ⌝ }
 {
-    let h = opening::read_heading(text, 0);
-    if h.number != 0 {
-        return refusal(h.number, h.place);
-    }
-    let l = first_line::read_line(text, h.place);
-    if l.number != 0 {
-        return refusal(l.number, l.place);
-    }
-    let a = areas::read_area(text, l.place);
-    if a.number != 0 {
-        return refusal(a.number, a.place);
-    }
+    let h = read_heading(text, step_at(text, 0));
+    let l = read_line(text, h.step);
+    let a = read_area(text, l.step);
     let heading = h.heading;
     let line = l.line;
     let area = a.area;
     let designator = heading.designator;
-    let b = bodies::read_body(text, a.place, designator.kind, line, area.closing);
-    if b.number != 0 {
-        return refusal(b.number, b.place);
+    let b = read_body(text, a.step, designator.kind, line, area.closing);
+    let step = b.step;
+    if step.number != 0 {
+        return refusal(step.number, step.place);
     }
     let form = b.form;
     let report = b.report;

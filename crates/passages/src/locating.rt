@@ -1,28 +1,30 @@
 // Location: a bound, an outline or the entire area. It is read in a report and in a forecast, and refused by the number of either.
 ghost use mathlib.Core.Path.{_≡_};
-ghost use Prim.Native.Nat.{_≤_, _<_};
-ghost use lib.ListN.{length};
+ghost use Prim.Native.Nat.{_<_};
 ghost use Rattle.grammar.specs.Records.{bounded as boundedBy};
-ghost use Rattle.grammar.specs.States.Placing.{atLocation, atLatitudeOf, atAnd, atSecondBound, atLongitudeOf, atEntire};
+ghost use Rattle.grammar.specs.States.Placing.{atLocation, atLatitudeOf, atAnd, atLongitudeOf, atEntire};
 ghost use Rattle.passages.specs.Locations.{SideSays, LocatedSays, LocatedInSays};
+ghost use Rattle.passages.specs.Leading.{Stands};
 use crate::codes;
 use crate::empties::no_extent;
 use crate::empties::no_side;
-use crate::fixed::code_at;
-use crate::fixed::fixed_at;
-use crate::fixed::perhaps_at;
 use crate::kinds::latitude_at;
 use crate::kinds::longitude_at;
 use crate::limits;
 use crate::outlining::read_outline;
+use crate::steps::Step;
+use crate::steps::code_of;
+use crate::steps::fixed_at;
+use crate::steps::judged;
+use crate::steps::perhaps_at;
+use crate::steps::step_at;
 use message::Bound;
 use message::Extent;
 use message::Location;
 use message::Side;
 
 pub(crate) struct LocationRead {
-    pub number: u8,
-    pub place: usize,
+    pub step: Step,
     pub extent: Extent,
 }
 
@@ -55,110 +57,64 @@ fn bounded(latitude: Side, longitude: Side) -> Extent
 }
 
 // OF and a longitude, after `E` or `W`; a latitude bound may stand before it.
-fn read_east(text: &[u8], at: usize, north: Side, side: u8, refusal: u8) -> LocationRead
-    requires { ⌜ at ≤ length (now text) ⌝ }
-    ensures { λ r. ⌜ LocatedSays (atLongitudeOf north side) refusal (now (text .entry)) at (r .number) (r .place) (r .extent) ⌝ }
+fn read_east(text: &[u8], from: Step, north: Side, side: u8, refusal: u8) -> LocationRead
+    requires { ⌜ (Stands (now text) from) × (0 < refusal) ⌝ }
+    ensures { λ r. ⌜ LocatedSays (atLongitudeOf north side) refusal (now (text .entry)) from (r .step) (r .extent) ⌝ }
 {
-    let of = fixed_at(text, at, codes::OF, refusal);
-    if of.number != 0 {
-        let none = no_extent();
-        return LocationRead {
-            number: of.number,
-            place: of.place,
-            extent: none,
-        };
-    }
-    let c = longitude_at(text, of.place, refusal);
+    let of = fixed_at(text, from, codes::OF, refusal);
+    let c = longitude_at(text, of, refusal);
+    let step = c.step;
     let at = c.coordinate;
     let east = Side { of: side, at };
     let extent = bounded(north, east);
-    LocationRead {
-        number: c.number,
-        place: c.place,
-        extent,
-    }
-}
-
-// The longitude bound after AND.
-fn read_second(text: &[u8], at: usize, north: Side, refusal: u8) -> LocationRead
-    requires { ⌜ at ≤ length (now text) ⌝ }
-    ensures { λ r. ⌜ LocatedSays (atSecondBound north) refusal (now (text .entry)) at (r .number) (r .place) (r .extent) ⌝ }
-{
-    let k = code_at(text, at);
-    let side = side_letter(k.code, b'E', b'W');
-    if side == 0 {
-        let none = no_extent();
-        return LocationRead {
-            number: refusal,
-            place: k.start,
-            extent: none,
-        };
-    }
-    read_east(text, k.end, north, side, refusal)
+    LocationRead { step, extent }
 }
 
 // After a latitude bound: perhaps AND and a longitude bound.
-fn read_after_north(text: &[u8], at: usize, north: Side, refusal: u8) -> LocationRead
-    requires { ⌜ at ≤ length (now text) ⌝ }
-    ensures { λ r. ⌜ LocatedSays (atAnd north) refusal (now (text .entry)) at (r .number) (r .place) (r .extent) ⌝ }
+fn read_after_north(text: &[u8], from: Step, north: Side, refusal: u8) -> LocationRead
+    requires { ⌜ (Stands (now text) from) × (0 < refusal) ⌝ }
+    ensures { λ r. ⌜ LocatedSays (atAnd north) refusal (now (text .entry)) from (r .step) (r .extent) ⌝ }
 {
-    let and = perhaps_at(text, at, codes::AND);
+    let and = perhaps_at(text, from, codes::AND);
     if !and.found {
+        let step = and.step;
         let none = no_side();
         let extent = bounded(north, none);
-        return LocationRead {
-            number: 0,
-            place: and.place,
-            extent,
-        };
+        return LocationRead { step, extent };
     }
-    read_second(text, and.place, north, refusal)
+    let past = and.step;
+    let side = side_letter(code_of(text, past), b'E', b'W');
+    let step = judged(text, past, side != 0, refusal);
+    read_east(text, step, north, side, refusal)
 }
 
 // OF and a latitude, after `N` or `S`, and what may follow.
-fn read_north(text: &[u8], at: usize, side: u8, refusal: u8) -> LocationRead
-    requires { ⌜ at ≤ length (now text) ⌝ }
-    ensures { λ r. ⌜ LocatedSays (atLatitudeOf side) refusal (now (text .entry)) at (r .number) (r .place) (r .extent) ⌝ }
+fn read_north(text: &[u8], from: Step, side: u8, refusal: u8) -> LocationRead
+    requires { ⌜ (Stands (now text) from) × (0 < refusal) ⌝ }
+    ensures { λ r. ⌜ LocatedSays (atLatitudeOf side) refusal (now (text .entry)) from (r .step) (r .extent) ⌝ }
 {
-    let of = fixed_at(text, at, codes::OF, refusal);
-    if of.number != 0 {
-        let none = no_extent();
-        return LocationRead {
-            number: of.number,
-            place: of.place,
-            extent: none,
-        };
-    }
-    let c = latitude_at(text, of.place, refusal);
-    if c.number != 0 {
-        let none = no_extent();
-        return LocationRead {
-            number: c.number,
-            place: c.place,
-            extent: none,
-        };
-    }
+    let of = fixed_at(text, from, codes::OF, refusal);
+    let c = latitude_at(text, of, refusal);
     let at = c.coordinate;
     let north = Side { of: side, at };
-    read_after_north(text, c.place, north, refusal)
+    read_after_north(text, c.step, north, refusal)
 }
 
 // FIR, or CTA in a CTA, after ENTIRE.
-fn read_entire(text: &[u8], at: usize, closing: u8, refusal: u8) -> LocationRead
-    requires { ⌜ at ≤ length (now text) ⌝ }
-    ensures { λ r. ⌜ LocatedInSays closing atEntire refusal (now (text .entry)) at (r .number) (r .place) (r .extent) ⌝ }
+fn read_entire(text: &[u8], from: Step, closing: u8, refusal: u8) -> LocationRead
+    requires { ⌜ (Stands (now text) from) × (0 < refusal) ⌝ }
+    ensures { λ r. ⌜ LocatedInSays closing atEntire refusal (now (text .entry)) from (r .step) (r .extent) ⌝ }
 {
     let name = if closing == limits::CTA {
         codes::CTA
     } else {
         codes::FIR
     };
-    let k = fixed_at(text, at, name, refusal);
+    let step = fixed_at(text, from, name, refusal);
     let none = no_extent();
     let points = none.points;
     LocationRead {
-        number: k.number,
-        place: k.place,
+        step,
         extent: Extent {
             location: Location::Entire,
             points,
@@ -167,30 +123,26 @@ fn read_entire(text: &[u8], at: usize, closing: u8, refusal: u8) -> LocationRead
 }
 
 // A bound by its first word, or the entire area, or an outline.
-pub(crate) fn read_location(text: &[u8], at: usize, closing: u8, refusal: u8) -> LocationRead
-    requires { ⌜ (at ≤ length (now text)) × (0 < refusal) ⌝ }
-    ensures { λ r. ⌜ LocatedInSays closing atLocation refusal (now (text .entry)) at (r .number) (r .place) (r .extent) ⌝ }
+pub(crate) fn read_location(text: &[u8], from: Step, closing: u8, refusal: u8) -> LocationRead
+    requires { ⌜ (Stands (now text) from) × (0 < refusal) ⌝ }
+    ensures { λ r. ⌜ LocatedInSays closing atLocation refusal (now (text .entry)) from (r .step) (r .extent) ⌝ }
 {
-    let k = code_at(text, at);
-    let north = side_letter(k.code, b'N', b'S');
+    let code = code_of(text, from);
+    let north = side_letter(code, b'N', b'S');
     if north != 0 {
-        return read_north(text, k.end, north, refusal);
+        return read_north(text, step_at(text, from.end), north, refusal);
     }
-    let east = side_letter(k.code, b'E', b'W');
+    let east = side_letter(code, b'E', b'W');
     if east != 0 {
         let none = no_side();
-        return read_east(text, k.end, none, east, refusal);
+        return read_east(text, step_at(text, from.end), none, east, refusal);
     }
-    if k.code == codes::ENTIRE {
-        return read_entire(text, k.end, closing, refusal);
+    if code == codes::ENTIRE {
+        return read_entire(text, step_at(text, from.end), closing, refusal);
     }
-    if k.code == codes::WI {
-        return read_outline(text, k.end, refusal);
-    }
-    let none = no_extent();
-    LocationRead {
-        number: refusal,
-        place: k.start,
-        extent: none,
-    }
+    read_outline(
+        text,
+        judged(text, from, code == codes::WI, refusal),
+        refusal,
+    )
 }

@@ -3,9 +3,12 @@ ghost use mathlib.Core.Path.{_≡_};
 ghost use mathlib.Core.List.{_++_};
 ghost use Prim.Native.Nat.{_+_, _<_, _≤_};
 ghost use lib.ListN.{length, take, drop};
-ghost use Rattle.passages.specs.Naming.{GrownSays, NameBegins, NameGoesOn, NameSays};
+ghost use Rattle.passages.specs.Naming.{GrownSays, NameBegins, NameGoesOn, NameFrom, NameSays};
+ghost use Rattle.passages.specs.Leading.{Stands};
 use crate::empties::no_name;
-use crate::fixed::word;
+use crate::steps::Step;
+use crate::steps::span_at;
+use crate::steps::step_at;
 use message::NAME_BYTES;
 use message::Name;
 use names::in_name;
@@ -16,9 +19,14 @@ struct WordRead {
     pub name: Name,
 }
 
-pub(crate) struct NameRead {
+struct NamePlaced {
     pub number: u8,
     pub place: usize,
+    pub name: Name,
+}
+
+pub(crate) struct NameRead {
+    pub step: Step,
     pub name: Name,
 }
 
@@ -42,7 +50,7 @@ fn first_word(text: &[u8], at: usize, mountain: bool, limit: usize) -> WordRead
     ensures { λ r. ⌜ NameBegins mountain limit (now (text .entry)) at (r .found) (r .place) (r .name) ⌝ }
 {
     let none = no_name();
-    let next = word(text, at);
+    let next = span_at(text, at);
     let start = next.start;
     let end = next.end;
     let long = end - start;
@@ -89,7 +97,7 @@ fn next_word(text: &[u8], at: usize, name: Name, mountain: bool, limit: usize) -
     requires { ⌜ (at ≤ length (now text)) × ((limit ≤ 50) × (name .count ≤ limit)) ⌝ }
     ensures { λ r. ⌜ NameGoesOn mountain limit (now (text .entry)) at name (r .found) (r .place) (r .name) ⌝ }
 {
-    let next = word(text, at);
+    let next = span_at(text, at);
     let start = next.start;
     let end = next.end;
     let room = limit - name.count;
@@ -115,22 +123,16 @@ fn next_word(text: &[u8], at: usize, name: Name, mountain: bool, limit: usize) -
     }
 }
 
-// A name; the place is then before the word that does not belong to it any more.
-pub(crate) fn read_name(
-    text: &[u8],
-    at: usize,
-    mountain: bool,
-    limit: usize,
-    refusal: u8,
-) -> NameRead
+// A name from a place on; the place is then before the word that does not belong to it any more.
+fn name_at(text: &[u8], at: usize, mountain: bool, limit: usize, refusal: u8) -> NamePlaced
     requires { ⌜ (at ≤ length (now text)) × ((limit ≤ 50) × (0 < refusal)) ⌝ }
-    ensures { λ r. ⌜ NameSays mountain limit refusal (now (text .entry)) at (r .number) (r .place) (r .name) ⌝ }
+    ensures { λ r. ⌜ NameFrom mountain limit refusal (now (text .entry)) at (r .number) (r .place) (r .name) ⌝ }
 {
     let first = first_word(text, at, mountain, limit);
     let mut name = first.name;
     let mut place = first.place;
     if !first.found {
-        return NameRead {
+        return NamePlaced {
             number: refusal,
             place,
             name,
@@ -139,7 +141,7 @@ pub(crate) fn read_name(
     loop {
         let next = next_word(text, place, name, mountain, limit);
         if !next.found {
-            return NameRead {
+            return NamePlaced {
                 number: 0,
                 place,
                 name,
@@ -148,4 +150,32 @@ pub(crate) fn read_name(
         name = next.name;
         place = next.place;
     }
+}
+
+pub(crate) fn read_name(
+    text: &[u8],
+    from: Step,
+    mountain: bool,
+    limit: usize,
+    refusal: u8,
+) -> NameRead
+    requires { ⌜ (Stands (now text) from) × ((limit ≤ 50) × (0 < refusal)) ⌝ }
+    ensures { λ r. ⌜ NameSays mountain limit refusal (now (text .entry)) from (r .step) (r .name) ⌝ }
+{
+    if from.number != 0 {
+        let name = no_name();
+        return NameRead { step: from, name };
+    }
+    let n = name_at(text, from.place, mountain, limit, refusal);
+    let name = n.name;
+    if n.number != 0 {
+        let step = Step {
+            number: n.number,
+            place: n.place,
+            end: n.place,
+        };
+        return NameRead { step, name };
+    }
+    let step = step_at(text, n.place);
+    NameRead { step, name }
 }

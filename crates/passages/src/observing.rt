@@ -1,31 +1,32 @@
 // Observation: OBS or FCST, perhaps AT GGggZ.
-ghost use Prim.Native.Nat.{_≤_};
-ghost use lib.ListN.{length};
 ghost use Rattle.passages.specs.Reports.{ObservedSays, ObservationSays};
+ghost use Rattle.passages.specs.Leading.{Stands};
 use crate::codes;
-use crate::fixed::code_at;
-use crate::fixed::perhaps_at;
 use crate::kinds::time_at;
+use crate::steps::Step;
+use crate::steps::code_of;
+use crate::steps::judged;
+use crate::steps::perhaps_at;
+use crate::steps::step_at;
 use groups::Time;
 use message::Observation;
 
 pub(crate) struct ObservationRead {
-    pub number: u8,
-    pub place: usize,
+    pub step: Step,
     pub observation: Observation,
 }
 
 // Perhaps AT and a time, after the first word.
-fn read_observed(text: &[u8], at: usize, word: u8) -> ObservationRead
-    requires { ⌜ at ≤ length (now text) ⌝ }
-    ensures { λ r. ⌜ ObservedSays word (now (text .entry)) at (r .number) (r .place) (r .observation) ⌝ }
+fn read_observed(text: &[u8], from: Step, word: u8) -> ObservationRead
+    requires { ⌜ Stands (now text) from ⌝ }
+    ensures { λ r. ⌜ ObservedSays word (now (text .entry)) from (r .step) (r .observation) ⌝ }
 {
-    let given = perhaps_at(text, at, codes::AT);
+    let given = perhaps_at(text, from, codes::AT);
+    let none = Time { hour: 0, minute: 0 };
     if !given.found {
-        let none = Time { hour: 0, minute: 0 };
+        let step = given.step;
         return ObservationRead {
-            number: 0,
-            place: given.place,
+            step,
             observation: Observation {
                 word,
                 timed: false,
@@ -33,11 +34,11 @@ fn read_observed(text: &[u8], at: usize, word: u8) -> ObservationRead
             },
         };
     }
-    let t = time_at(text, given.place, 8);
+    let t = time_at(text, given.step, 8);
+    let step = t.step;
     let time = t.time;
     ObservationRead {
-        number: t.number,
-        place: t.place,
+        step,
         observation: Observation {
             word,
             timed: true,
@@ -46,25 +47,13 @@ fn read_observed(text: &[u8], at: usize, word: u8) -> ObservationRead
     }
 }
 
-pub(crate) fn read_observation(text: &[u8], at: usize) -> ObservationRead
-    requires { ⌜ at ≤ length (now text) ⌝ }
-    ensures { λ r. ⌜ ObservationSays (now (text .entry)) at (r .number) (r .place) (r .observation) ⌝ }
+pub(crate) fn read_observation(text: &[u8], from: Step) -> ObservationRead
+    requires { ⌜ Stands (now text) from ⌝ }
+    ensures { λ r. ⌜ ObservationSays (now (text .entry)) from (r .step) (r .observation) ⌝ }
 {
-    let k = code_at(text, at);
-    if k.code == codes::OBS {
-        return read_observed(text, k.end, 1);
+    let code = code_of(text, from);
+    if code == codes::OBS {
+        return read_observed(text, step_at(text, from.end), 1);
     }
-    if k.code == codes::FCST {
-        return read_observed(text, k.end, 2);
-    }
-    let none = Time { hour: 0, minute: 0 };
-    ObservationRead {
-        number: 8,
-        place: k.start,
-        observation: Observation {
-            word: 0,
-            timed: false,
-            time: none,
-        },
-    }
+    read_observed(text, judged(text, from, code == codes::FCST, 8), 2)
 }

@@ -1,32 +1,33 @@
 // An outline: points joined by the word `-`. It ends at the first later point equal to point 1.
-ghost use Prim.Native.Nat.{_≤_, _<_};
-ghost use lib.ListN.{length};
+ghost use Prim.Native.Nat.{_<_};
 ghost use mathlib.Core.List.{[]};
 ghost use Rattle.grammar.specs.States.Placing.{atLatitude};
 ghost use Rattle.passages.specs.Locations.{LocatedSays};
 ghost use Rattle.passages.specs.Outlines.{FollowsSays, ClosesSays, LatitudeSays, LongitudeSays, PointSays};
+ghost use Rattle.passages.specs.Leading.{Stands};
 use crate::codes;
 use crate::empties::no_extent;
 use crate::empties::no_point;
-use crate::fixed::fixed_at;
-use crate::fixed::word;
 use crate::kinds::CoordinateRead;
 use crate::limits;
 use crate::locating::LocationRead;
+use crate::steps::Step;
+use crate::steps::fixed_at;
+use crate::steps::judged;
 use coordinates::Coordinate;
 use coordinates::Point;
 use coordinates::latitude;
 use coordinates::longitude;
 use coordinates::same_latitude;
 use coordinates::same_point;
+use lists::both;
 use lists::either;
 use message::Extent;
 use message::Location;
 use message::MOST_POINTS;
 
 struct PointRead {
-    pub number: u8,
-    pub place: usize,
+    pub step: Step,
     pub point: Point,
     pub closed: bool,
 }
@@ -53,50 +54,32 @@ fn closes(first: Point, count: usize, p: Point) -> bool
     same_point(first, p)
 }
 
-fn next_latitude(text: &[u8], at: usize, first: Point, count: usize, refusal: u8) -> CoordinateRead
-    requires { ⌜ (at ≤ length (now text)) × (count < 7) ⌝ }
-    ensures { λ r. ⌜ LatitudeSays first count refusal (now (text .entry)) at (r .number) (r .place) (r .coordinate) ⌝ }
+fn next_latitude(text: &[u8], from: Step, first: Point, count: usize, refusal: u8) -> CoordinateRead
+    requires { ⌜ (Stands (now text) from) × (count < 7) × (0 < refusal) ⌝ }
+    ensures { λ r. ⌜ LatitudeSays first count refusal (now (text .entry)) from (r .step) (r .coordinate) ⌝ }
 {
-    let next = word(text, at);
-    let start = next.start;
-    let end = next.end;
+    let start = from.place;
+    let end = from.end;
     let coordinate = latitude(&text[start..end]);
-    if coordinate.letter == 0 {
-        return CoordinateRead {
-            number: refusal,
-            place: start,
-            coordinate,
-        };
-    }
-    if !may_follow(first, count, coordinate) {
-        return CoordinateRead {
-            number: refusal,
-            place: start,
-            coordinate,
-        };
-    }
-    CoordinateRead {
-        number: 0,
-        place: end,
-        coordinate,
-    }
+    let good = both(coordinate.letter != 0, may_follow(first, count, coordinate));
+    let step = judged(text, from, good, refusal);
+    CoordinateRead { step, coordinate }
 }
 
 // The longitude of one more point, which may close the outline from point 4 on, and has to where there is no room after it.
 fn next_longitude(
     text: &[u8],
-    at: usize,
+    from: Step,
     first: Point,
     count: usize,
     north: Coordinate,
     refusal: u8,
 ) -> PointRead
-    requires { ⌜ (at ≤ length (now text)) × (count < 7) × (0 < refusal) ⌝ }
-    ensures { λ r. ⌜ LongitudeSays first count north refusal (now (text .entry)) at (r .number) (r .place) (r .point) (r .closed) ⌝ }
+    requires { ⌜ (Stands (now text) from) × (count < 7) × (0 < refusal) ⌝ }
+    ensures { λ r. ⌜ LongitudeSays first count north refusal (now (text .entry)) from (r .step) (r .point) (r .closed) ⌝ }
 {
-    let next = word(text, at);
-    let start = next.start;
-    let end = next.end;
+    let start = from.place;
+    let end = from.end;
     let east = longitude(&text[start..end]);
     let point = Point {
         latitude: north,
@@ -108,95 +91,62 @@ fn next_longitude(
     } else {
         count + 1 < MOST_POINTS
     };
-    if east.letter == 0 {
-        return PointRead {
-            number: refusal,
-            place: start,
-            point,
-            closed,
-        };
-    }
-    if !fits {
-        return PointRead {
-            number: refusal,
-            place: start,
-            point,
-            closed,
-        };
-    }
+    let step = judged(text, from, both(east.letter != 0, fits), refusal);
     PointRead {
-        number: 0,
-        place: end,
+        step,
         point,
         closed,
     }
 }
 
 // One more point, and the `-` after it where the outline is not closed.
-fn next_point(text: &[u8], at: usize, first: Point, count: usize, refusal: u8) -> PointRead
-    requires { ⌜ (at ≤ length (now text)) × (count < 7) × (0 < refusal) ⌝ }
-    ensures { λ r. ⌜ PointSays first count refusal (now (text .entry)) at (r .number) (r .place) (r .point) (r .closed) ⌝ }
+fn next_point(text: &[u8], from: Step, first: Point, count: usize, refusal: u8) -> PointRead
+    requires { ⌜ (Stands (now text) from) × (count < 7) × (0 < refusal) ⌝ }
+    ensures { λ r. ⌜ PointSays first count refusal (now (text .entry)) from (r .step) (r .point) (r .closed) ⌝ }
 {
-    let north = next_latitude(text, at, first, count, refusal);
+    let north = next_latitude(text, from, first, count, refusal);
     let latitude = north.coordinate;
-    if north.number != 0 {
-        return PointRead {
-            number: north.number,
-            place: north.place,
-            point: first,
-            closed: false,
-        };
-    }
-    let p = next_longitude(text, north.place, first, count, latitude, refusal);
-    if p.number != 0 {
-        return p;
-    }
+    let p = next_longitude(text, north.step, first, count, latitude, refusal);
     if p.closed {
         return p;
     }
-    let dash = fixed_at(text, p.place, codes::DASH, refusal);
+    let step = fixed_at(text, p.step, codes::DASH, refusal);
     let point = p.point;
     PointRead {
-        number: dash.number,
-        place: dash.place,
+        step,
         point,
         closed: false,
     }
 }
 
 // The points after WI.
-pub(crate) fn read_outline(text: &[u8], at: usize, refusal: u8) -> LocationRead
-    requires { ⌜ (at ≤ length (now text)) × (0 < refusal) ⌝ }
-    ensures { λ r. ⌜ LocatedSays (atLatitude []) refusal (now (text .entry)) at (r .number) (r .place) (r .extent) ⌝ }
+pub(crate) fn read_outline(text: &[u8], from: Step, refusal: u8) -> LocationRead
+    requires { ⌜ (Stands (now text) from) × (0 < refusal) ⌝ }
+    ensures { λ r. ⌜ LocatedSays (atLatitude []) refusal (now (text .entry)) from (r .step) (r .extent) ⌝ }
 {
     let none = no_point();
     let mut points = [none; MOST_POINTS];
     let mut count: usize = 0;
-    let mut place = at;
+    let mut step = from;
     loop {
         let first = points[0];
-        let next = next_point(text, place, first, count, refusal);
-        if next.number != 0 {
-            let nowhere = no_extent();
-            return LocationRead {
-                number: next.number,
-                place: next.place,
-                extent: nowhere,
-            };
+        let next = next_point(text, step, first, count, refusal);
+        step = next.step;
+        if step.number != 0 {
+            let extent = no_extent();
+            return LocationRead { step, extent };
         }
         let point = next.point;
         points[count] = point;
         count += 1;
         if next.closed {
             return LocationRead {
-                number: 0,
-                place: next.place,
+                step,
                 extent: Extent {
                     location: Location::Outline(count as u8),
                     points,
                 },
             };
         }
-        place = next.place;
     }
 }

@@ -1,150 +1,126 @@
 // Phenomenon of a WS: its number, in the paper's order.
 ghost use Prim.Native.Nat.{_≤_};
-ghost use lib.ListN.{length};
 ghost use Rattle.grammar.specs.States.State.{atStorm, atSevere, atHeavy, atRadioactive};
 ghost use Rattle.passages.specs.Phenomena.{WeatherFrom, WeatherSays};
+ghost use Rattle.passages.specs.Leading.{Stands};
 use crate::codes;
-use crate::fixed::code_at;
-use crate::fixed::fixed_at;
-use crate::fixed::perhaps_at;
+use crate::steps::Step;
+use crate::steps::code_of;
+use crate::steps::fixed_at;
+use crate::steps::judged;
+use crate::steps::perhaps_at;
+use crate::steps::step_at;
 use figures::find;
 
 pub(crate) struct WeatherRead {
-    pub number: u8,
-    pub place: usize,
+    pub step: Step,
     pub phenomenon: u8,
 }
 
 // TS or TSGR, after the storm's first word.
-fn read_storm(text: &[u8], at: usize, storm: u8) -> WeatherRead
-    requires { ⌜ (at ≤ length (now text)) × ((1 ≤ storm) × (storm ≤ 4)) ⌝ }
-    ensures { λ r. ⌜ WeatherFrom (λ o. atStorm o storm) (now (text .entry)) at (r .number) (r .place) (r .phenomenon) ⌝ }
+fn read_storm(text: &[u8], from: Step, storm: u8) -> WeatherRead
+    requires { ⌜ (Stands (now text) from) × ((1 ≤ storm) × (storm ≤ 4)) ⌝ }
+    ensures { λ r. ⌜ WeatherFrom (λ o. atStorm o storm) (now (text .entry)) from (r .step) (r .phenomenon) ⌝ }
 {
-    let k = code_at(text, at);
-    if k.code == codes::TS {
+    let code = code_of(text, from);
+    if code == codes::TS {
+        let step = step_at(text, from.end);
         return WeatherRead {
-            number: 0,
-            place: k.end,
+            step,
             phenomenon: 2 * storm - 1,
         };
     }
-    if k.code == codes::TSGR {
-        return WeatherRead {
-            number: 0,
-            place: k.end,
-            phenomenon: 2 * storm,
-        };
-    }
+    let step = judged(text, from, code == codes::TSGR, 7);
     WeatherRead {
-        number: 7,
-        place: k.start,
-        phenomenon: 0,
+        step,
+        phenomenon: 2 * storm,
     }
 }
 
 // TURB, ICE, ICE (FZRA) or MTW, after SEV.
-fn read_severe(text: &[u8], at: usize) -> WeatherRead
-    requires { ⌜ at ≤ length (now text) ⌝ }
-    ensures { λ r. ⌜ WeatherFrom atSevere (now (text .entry)) at (r .number) (r .place) (r .phenomenon) ⌝ }
+fn read_severe(text: &[u8], from: Step) -> WeatherRead
+    requires { ⌜ Stands (now text) from ⌝ }
+    ensures { λ r. ⌜ WeatherFrom atSevere (now (text .entry)) from (r .step) (r .phenomenon) ⌝ }
 {
-    let k = code_at(text, at);
-    if k.code == codes::TURB {
+    let code = code_of(text, from);
+    if code == codes::TURB {
+        let step = step_at(text, from.end);
         return WeatherRead {
-            number: 0,
-            place: k.end,
+            step,
             phenomenon: 9,
         };
     }
-    if k.code == codes::MTW {
+    if code == codes::MTW {
+        let step = step_at(text, from.end);
         return WeatherRead {
-            number: 0,
-            place: k.end,
+            step,
             phenomenon: 12,
         };
     }
-    if k.code != codes::ICE {
-        return WeatherRead {
-            number: 7,
-            place: k.start,
-            phenomenon: 0,
-        };
-    }
-    let rain = perhaps_at(text, k.end, codes::FREEZING_RAIN);
+    let rain = perhaps_at(
+        text,
+        judged(text, from, code == codes::ICE, 7),
+        codes::FREEZING_RAIN,
+    );
+    let step = rain.step;
     if rain.found {
         return WeatherRead {
-            number: 0,
-            place: rain.place,
+            step,
             phenomenon: 11,
         };
     }
     WeatherRead {
-        number: 0,
-        place: rain.place,
+        step,
         phenomenon: 10,
     }
 }
 
 // DS or SS, after HVY.
-fn read_heavy(text: &[u8], at: usize) -> WeatherRead
-    requires { ⌜ at ≤ length (now text) ⌝ }
-    ensures { λ r. ⌜ WeatherFrom atHeavy (now (text .entry)) at (r .number) (r .place) (r .phenomenon) ⌝ }
+fn read_heavy(text: &[u8], from: Step) -> WeatherRead
+    requires { ⌜ Stands (now text) from ⌝ }
+    ensures { λ r. ⌜ WeatherFrom atHeavy (now (text .entry)) from (r .step) (r .phenomenon) ⌝ }
 {
-    let k = code_at(text, at);
-    if k.code == codes::DS {
+    let code = code_of(text, from);
+    if code == codes::DS {
+        let step = step_at(text, from.end);
         return WeatherRead {
-            number: 0,
-            place: k.end,
+            step,
             phenomenon: 13,
         };
     }
-    if k.code == codes::SS {
-        return WeatherRead {
-            number: 0,
-            place: k.end,
-            phenomenon: 14,
-        };
-    }
+    let step = judged(text, from, code == codes::SS, 7);
     WeatherRead {
-        number: 7,
-        place: k.start,
-        phenomenon: 0,
+        step,
+        phenomenon: 14,
     }
 }
 
 // CLD, after RDOACT.
-fn read_radioactive(text: &[u8], at: usize) -> WeatherRead
-    requires { ⌜ at ≤ length (now text) ⌝ }
-    ensures { λ r. ⌜ WeatherFrom atRadioactive (now (text .entry)) at (r .number) (r .place) (r .phenomenon) ⌝ }
+fn read_radioactive(text: &[u8], from: Step) -> WeatherRead
+    requires { ⌜ Stands (now text) from ⌝ }
+    ensures { λ r. ⌜ WeatherFrom atRadioactive (now (text .entry)) from (r .step) (r .phenomenon) ⌝ }
 {
-    let cloud = fixed_at(text, at, codes::CLD, 7);
+    let step = fixed_at(text, from, codes::CLD, 7);
     WeatherRead {
-        number: cloud.number,
-        place: cloud.place,
+        step,
         phenomenon: 15,
     }
 }
 
-pub(crate) fn read_weather(text: &[u8], at: usize) -> WeatherRead
-    requires { ⌜ at ≤ length (now text) ⌝ }
-    ensures { λ r. ⌜ WeatherSays (now (text .entry)) at (r .number) (r .place) (r .phenomenon) ⌝ }
+pub(crate) fn read_weather(text: &[u8], from: Step) -> WeatherRead
+    requires { ⌜ Stands (now text) from ⌝ }
+    ensures { λ r. ⌜ WeatherSays (now (text .entry)) from (r .step) (r .phenomenon) ⌝ }
 {
-    let k = code_at(text, at);
-    let storm = find(&codes::STORMS, k.code);
+    let code = code_of(text, from);
+    let storm = find(&codes::STORMS, code);
     if storm < 4 {
-        return read_storm(text, k.end, (storm + 1) as u8);
+        return read_storm(text, step_at(text, from.end), (storm + 1) as u8);
     }
-    if k.code == codes::SEV {
-        return read_severe(text, k.end);
+    if code == codes::SEV {
+        return read_severe(text, step_at(text, from.end));
     }
-    if k.code == codes::HVY {
-        return read_heavy(text, k.end);
+    if code == codes::HVY {
+        return read_heavy(text, step_at(text, from.end));
     }
-    if k.code == codes::RDOACT {
-        return read_radioactive(text, k.end);
-    }
-    WeatherRead {
-        number: 7,
-        place: k.start,
-        phenomenon: 0,
-    }
+    read_radioactive(text, judged(text, from, code == codes::RDOACT, 7))
 }

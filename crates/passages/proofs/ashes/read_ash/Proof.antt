@@ -1,33 +1,58 @@
--- `read_ash` meets its contract: one fixed word, and what follows it. Assumes nothing.
+-- `read_ash` meets its contract. Assumes nothing.
 use borrow.Author.Needs.{needs}
 use mathlib.Core.Path.{refl}
-use Rattle.grammar.specs.States.State.{atForm, atAsh}
-use Rattle.passages.proofs.Chains.{on, off}
-use Rattle.passages.proofs.FixedWords.{fixed-va}
+use Rattle.grammar.specs.States.State.{atForm, atAsh, atEruption}
+use Rattle.grammar.specs.Steps.{step}
+use Rattle.passages.proofs.Leads.{then}
+use Rattle.passages.proofs.FixedWords.{fixed-va, fixed-cld}
+use Rattle.passages.proofs.Forming.{eruption-told}
 use Rattle.passages.proofs.ashes.read_ash.Statement.{statement}
 use Rattle.passages.proofs.ashes.read_ash.Tie as tie
 
 fixed-at-requires : tie.Need-fixed-at-requires
 fixed-at-requires c κs = search needs
 
+perhaps-at-requires : tie.Need-perhaps-at-requires
+perhaps-at-requires c κs = search needs
+
 no-volcano-requires : tie.Need-no-volcano-requires
 no-volcano-requires c κs = search needs
 
 returns : tie.Need-returns
+unfolding step
 returns c =
-    record { says = λ o j. off (c .before .before .before .fixed-at .ensures .says _ fixed-va (atForm o) (atAsh o) j refl) (c .before .if1 .taken); within = search needs }
+    record {
+      says = λ o j. then (c .before .before .before .before .fixed-at .ensures .says _ fixed-va (atForm o) (atAsh o) j refl)
+          (c .before .before .before .perhaps-at .ensures .with (c .before .before .if1 .taken) _ fixed-cld (atAsh o) _ (λ y. rw (y, c .no-volcano .ensures)));
+      stands = search needs;
+    }
 
-read-after-ash-requires : tie.Need-read-after-ash-requires
-read-after-ash-requires c κs = search needs
+long-at-requires : tie.Need-long-at-requires
+long-at-requires c κs = search needs
+
+read-eruption-requires : tie.Need-read-eruption-requires
+read-eruption-requires c κs = search needs
 
 returns-2 : tie.Need-returns-2
+unfolding step
 returns-2 c =
+    let cloud = c .before .before .before .perhaps-at .ensures in
     record {
-      says = λ o j. on (c .before .before .before .fixed-at .ensures .says _ fixed-va (atForm o) (atAsh o) j refl) (c .before .if1 .left) (c .read-after-ash .ensures .says o);
-      within = search needs;
+      says = λ o j. then (c .before .before .before .before .fixed-at .ensures .says _ fixed-va (atForm o) (atAsh o) j refl)
+          (then (cloud .without (c .before .before .if1 .left) _ fixed-cld (atAsh o) (atAsh o) (λ z n. refl) refl)
+          (then (c .before .long-at .ensures .says (atAsh o) (atEruption o) (λ z. rw (cloud .other (c .before .before .if1 .left) _ fixed-cld z, eruption-told)) refl)
+          (c .read-eruption .ensures .says o)));
+      stands = search needs;
     }
 
 pub read-ash-spec : {M : Type 1} → statement M
 read-ash-spec =
     tie.close
-    (tie.spec fixed-at-requires no-volcano-requires returns read-after-ash-requires returns-2)
+    (tie.spec
+    fixed-at-requires
+    perhaps-at-requires
+    no-volcano-requires
+    returns
+    long-at-requires
+    read-eruption-requires
+    returns-2)

@@ -1,41 +1,41 @@
--- `read_eruption` meets its contract: a name, a point and a cloud, one after another. Assumes nothing.
+-- `read_eruption` meets its contract. Assumes nothing.
 use borrow.Author.Needs.{needs}
-use Rattle.passages.proofs.Chains.{on, off}
+use mathlib.Core.Path.{refl}
+use Rattle.grammar.specs.States.State.{atPosition, atPositionLongitude, atVolcanoAsh, atVolcanoCloud}
+use Rattle.grammar.specs.Steps.{step}
+use Rattle.passages.proofs.Leads.{then}
+use Rattle.passages.proofs.FixedWords.{fixed-va, fixed-cld}
 use Rattle.passages.proofs.ashes.read_eruption.Statement.{statement}
 use Rattle.passages.proofs.ashes.read_eruption.Tie as tie
 
 read-mountain-requires : tie.Need-read-mountain-requires
 read-mountain-requires c κs = search needs
 
-no-point-requires : tie.Need-no-point-requires
-no-point-requires c κs = search needs
+latitude-at-requires : tie.Need-latitude-at-requires
+latitude-at-requires c κs = search needs
+
+longitude-at-requires : tie.Need-longitude-at-requires
+longitude-at-requires c κs = search needs
+
+fixed-at-requires : tie.Need-fixed-at-requires
+fixed-at-requires c κs = search needs
+
+fixed-at-requires-2 : tie.Need-fixed-at-requires-2
+fixed-at-requires-2 c κs = search needs
 
 returns : tie.Need-returns
-returns c = record { says = λ o. off (c .before .before .before .before .read-mountain .ensures .says o) (c .before .if1 .taken); within = search needs }
-
-read-position-requires : tie.Need-read-position-requires
-read-position-requires c κs = search needs
-
-returns-2 : tie.Need-returns-2
-returns-2 c =
-    let mount = c .before .before .before .before .before .before .before .read-mountain in
+unfolding step
+returns c =
+    let n = c .before .before .before .before .before .before .before .read-mountain .result .name in
+    let north = c .before .before .before .before .before .before .latitude-at .result .coordinate in
+    let east = c .before .before .before .before .before .longitude-at .result .coordinate in
     record {
-      says = λ o. off (on (mount .ensures .says o) (c .before .before .before .before .if1 .left) (c .before .before .before .read-position .ensures .says o (mount .result .name))) (c .if2 .taken);
-      within = search needs;
-    }
-
-read-cloud-requires : tie.Need-read-cloud-requires
-read-cloud-requires c κs = search needs
-
-returns-3 : tie.Need-returns-3
-returns-3 c =
-    let mount = c .before .before .before .before .before .before .before .before .read-mountain in
-    let point = c .before .before .before .before .read-position in
-    record {
-      says = λ o. on (mount .ensures .says o) (c .before .before .before .before .before .if1 .left)
-          (on (point .ensures .says o (mount .result .name)) (c .before .if2 .left)
-          (c .read-cloud .ensures .says o (record { name = mount .result .name; position = point .result .point })));
-      within = search needs;
+      says = λ o. then (c .before .before .before .before .before .before .before .read-mountain .ensures .says o)
+          (then (c .before .before .before .before .before .before .latitude-at .ensures .says (atPosition o n) (atPositionLongitude o n) (λ z. refl) refl)
+          (then (c .before .before .before .before .before .longitude-at .ensures .says (atPositionLongitude o n north) (λ e. atVolcanoAsh o (record { name = n; position = record { latitude = north; longitude = e } })) (λ z. refl) refl)
+          (then (c .before .before .before .before .fixed-at .ensures .says _ fixed-va (atVolcanoAsh o _) (atVolcanoCloud o _) (λ z. refl) refl)
+          (c .before .before .before .fixed-at2 .ensures .says _ fixed-cld (atVolcanoCloud o _) _ (λ z. refl) refl))));
+      stands = search needs;
     }
 
 pub read-eruption-spec : {M : Type 1} → statement M
@@ -43,9 +43,8 @@ read-eruption-spec =
     tie.close
     (tie.spec
     read-mountain-requires
-    no-point-requires
-    returns
-    read-position-requires
-    returns-2
-    read-cloud-requires
-    returns-3)
+    latitude-at-requires
+    longitude-at-requires
+    fixed-at-requires
+    fixed-at-requires-2
+    returns)

@@ -1,6 +1,6 @@
 -- `cancellation_body` meets its contract: what is cancelled, and the `=`. Assumes nothing.
 use borrow.Author.Needs.{needs}
-use Rattle.grammar.specs.States.State.{atCancelSigmet}
+use Rattle.passages.proofs.Leads.{at-last}
 use Rattle.passages.proofs.bodies.cancellation_body.Statement.{statement}
 use Rattle.passages.proofs.bodies.cancellation_body.Tie as tie
 
@@ -14,8 +14,7 @@ no-report-requires : tie.Need-no-report-requires
 no-report-requires c κs = search needs
 
 returns : tie.Need-returns
-returns c =
-    record { says = λ o l. rw (c .no-report .ensures) (c .before .concluding .ensures .says (atCancelSigmet o) _ _ (c .before .before .before .before .read-cancellation .ensures .says o l)) }
+returns c = record { says = λ o l. rw (c .no-report .ensures) (at-last (c .before .before .before .before .read-cancellation .ensures .says o l) (c .before .concluding .ensures .says _ _ (search needs))) }
 
 pub cancellation-body-spec : {M : Type 1} → statement M
 cancellation-body-spec =

@@ -1,18 +1,20 @@
--- `read_body` meets its contract: a choice of three words by their codes; any other word begins a report. Assumes nothing.
+-- `read_body` meets its contract. Assumes nothing.
 use borrow.Author.Needs.{needs}
-use mathlib.Core.Path.{refl, ap}
+use mathlib.Core.Path.{ap}
 use Rattle.message.specs.Words.{timeOfDay}
 use Rattle.message.specs.declared.FirstLine.{FirstLine}
 use Rattle.grammar.specs.States.State.{atForm, atTest, atTestText, atCancelSigmet}
 use Rattle.grammar.specs.Steps.{stepForm, step}
-use Rattle.passages.proofs.Chains.{on-ends}
+use Rattle.passages.proofs.Leads.{at-last, goes-code, code-going, code-yes, code-no}
 use Rattle.passages.proofs.FixedWords.{fixed-test, fixed-test-stop, fixed-cnl}
-use Rattle.passages.proofs.KindLaws.{is-yes, is-no, goes-fixed}
 use Rattle.passages.proofs.bodies.read_body.Statement.{statement}
 use Rattle.passages.proofs.bodies.read_body.Tie as tie
 
-code-at-requires : tie.Need-code-at-requires
-code-at-requires c κs = search needs
+code-of-requires : tie.Need-code-of-requires
+code-of-requires c κs = search needs
+
+step-at-requires : tie.Need-step-at-requires
+step-at-requires c κs = search needs
 
 test-body-requires : tie.Need-test-body-requires
 test-body-requires c κs = search needs
@@ -20,11 +22,15 @@ test-body-requires c κs = search needs
 returns : tie.Need-returns
 unfolding step stepForm
 returns c =
-    let k = c .before .before .before .code-at .ensures in
+    let f = c .before .before .before .before .before .pre in
+    let i = c .before .before .before .code-of .ensures in
+    let told = c .before .before .if1 .taken in
     record {
-      says = λ o e l a. on-ends (goes-fixed (search needs) k fixed-test (c .before .if1 .taken) (atForm o) (atTest o) (rw (is-yes (search needs) k fixed-test (c .before .if1 .taken)))) refl
-          (c .test-body .ensures .says o);
+      says = λ o e l a. at-last (goes-code f i fixed-test told (c .before .step-at .ensures) (atForm o) (atTest o) (rw (code-yes f i fixed-test told))) (c .test-body .ensures .says o);
     }
+
+step-at-requires-2 : tie.Need-step-at-requires-2
+step-at-requires-2 c κs = search needs
 
 long-test-body-requires : tie.Need-long-test-body-requires
 long-test-body-requires c κs = search needs
@@ -32,14 +38,19 @@ long-test-body-requires c κs = search needs
 returns-2 : tie.Need-returns-2
 unfolding step stepForm
 returns-2 c =
-    let k = c .before .before .before .before .before .code-at .ensures in
+    let f = c .before .before .before .before .before .before .pre in
+    let i = c .before .before .before .before .code-of .ensures in
+    let told = c .before .before .if2 .taken in
+    let z = code-going f i fixed-test-stop told in
     record {
-      says = λ o e l a. on-ends
-          (goes-fixed (search needs) k fixed-test-stop (c .before .if2 .taken) (atForm o) (atTestText o 3 1)
-          (rw (is-no (search needs) k fixed-test (c .before .before .before .if1 .left), is-yes (search needs) k fixed-test-stop (c .before .if2 .taken))))
-          refl
+      says = λ o e l a. at-last
+          (goes-code f i fixed-test-stop told (c .before .step-at2 .ensures) (atForm o) (atTestText o 3 1)
+          (rw (code-no f i z fixed-test (c .before .before .before .if1 .left), code-yes f i fixed-test-stop told)))
           (c .long-test-body .ensures .says o);
     }
+
+step-at-requires-3 : tie.Need-step-at-requires-3
+step-at-requires-3 c κs = search needs
 
 cancellation-body-requires : tie.Need-cancellation-body-requires
 cancellation-body-requires c κs = search needs
@@ -47,16 +58,14 @@ cancellation-body-requires c κs = search needs
 returns-3 : tie.Need-returns-3
 unfolding step stepForm
 returns-3 c =
-    let k = c .before .before .before .before .before .before .before .code-at .ensures in
+    let f = c .before .before .before .before .before .before .before .pre in
+    let i = c .before .before .before .before .before .code-of .ensures in
+    let told = c .before .before .if3 .taken in
+    let z = code-going f i fixed-cnl told in
     record {
-      says = λ o e l a. on-ends
-          (goes-fixed (search needs) k fixed-cnl (c .before .if3 .taken) (atForm o) (atCancelSigmet o)
-          (rw (
-            is-no (search needs) k fixed-test (c .before .before .before .before .before .if1 .left),
-            is-no (search needs) k fixed-test-stop (c .before .before .before .if2 .left),
-            is-yes (search needs) k fixed-cnl (c .before .if3 .taken),
-          )))
-          refl
+      says = λ o e l a. at-last
+          (goes-code f i fixed-cnl told (c .before .step-at3 .ensures) (atForm o) (atCancelSigmet o)
+          (rw (code-no f i z fixed-test (c .before .before .before .before .if1 .left), code-no f i z fixed-test-stop (c .before .before .before .if2 .left), code-yes f i fixed-cnl told)))
           (c .cancellation-body .ensures .says o l);
     }
 
@@ -65,13 +74,14 @@ read-report-requires c κs = search needs
 
 returns-4 : tie.Need-returns-4
 returns-4 c =
-    let k = c .before .before .before .before .before .before .before .before .before .before .code-at .ensures in
+    let f = c .before .before .before .before .before .before .before .before .before .before .pre in
+    let i = c .before .before .before .before .before .before .before .before .code-of .ensures in
     record {
-      says = λ o e l a. c .before .read-report .ensures .says o e a (ap (λ (x : FirstLine). timeOfDay (x .valid .to)) l)
-          (record {
-            no-test = is-no (search needs) k fixed-test (c .before .before .before .before .before .before .before .before .if1 .left);
-            no-long-test = is-no (search needs) k fixed-test-stop (c .before .before .before .before .before .before .if2 .left);
-            no-cancellation = is-no (search needs) k fixed-cnl (c .before .before .before .before .if3 .left);
+      says = λ o e l a. c .before .before .read-report .ensures .says o e a (ap (λ (x : FirstLine). timeOfDay (x .valid .to)) l)
+          (λ z. record {
+            no-test = code-no f i z fixed-test (c .before .before .before .before .before .before .before .if1 .left);
+            no-long-test = code-no f i z fixed-test-stop (c .before .before .before .before .before .before .if2 .left);
+            no-cancellation = code-no f i z fixed-cnl (c .before .before .before .before .before .if3 .left);
           });
     }
 
@@ -79,11 +89,14 @@ pub read-body-spec : {M : Type 1} → statement M
 read-body-spec =
     tie.close
     (tie.spec
-    code-at-requires
+    code-of-requires
+    step-at-requires
     test-body-requires
     returns
+    step-at-requires-2
     long-test-body-requires
     returns-2
+    step-at-requires-3
     cancellation-body-requires
     returns-3
     read-report-requires

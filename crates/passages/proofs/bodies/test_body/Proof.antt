@@ -1,6 +1,6 @@
 -- `test_body` meets its contract: the text of the test, and the `=`. Assumes nothing.
 use borrow.Author.Needs.{needs}
-use Rattle.grammar.specs.States.State.{atTest}
+use Rattle.passages.proofs.Leads.{at-last}
 use Rattle.passages.proofs.bodies.test_body.Statement.{statement}
 use Rattle.passages.proofs.bodies.test_body.Tie as tie
 
@@ -14,7 +14,7 @@ no-report-requires : tie.Need-no-report-requires
 no-report-requires c κs = search needs
 
 returns : tie.Need-returns
-returns c = record { says = λ o. rw (c .no-report .ensures) (c .before .concluding .ensures .says (atTest o) _ _ (c .before .before .read-test .ensures .says o)) }
+returns c = record { says = λ o. rw (c .no-report .ensures) (at-last (c .before .before .read-test .ensures .says o) (c .before .concluding .ensures .says _ _ (search needs))) }
 
 pub test-body-spec : {M : Type 1} → statement M
 test-body-spec =

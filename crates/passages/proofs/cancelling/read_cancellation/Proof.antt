@@ -4,7 +4,7 @@ use mathlib.Core.Path.{refl}
 use Rattle.grammar.specs.Records.{cancellationOf}
 use Rattle.grammar.specs.States.State.{atCancelSigmet, atCancelSequence, atCancelPeriod, atEnd}
 use Rattle.grammar.specs.Steps.{step}
-use Rattle.passages.proofs.Chains.{on, off}
+use Rattle.passages.proofs.Leads.{then}
 use Rattle.passages.proofs.FixedWords.{fixed-sigmet}
 use Rattle.passages.proofs.cancelling.read_cancellation.Statement.{statement}
 use Rattle.passages.proofs.cancelling.read_cancellation.Tie as tie
@@ -12,47 +12,23 @@ use Rattle.passages.proofs.cancelling.read_cancellation.Tie as tie
 fixed-at-requires : tie.Need-fixed-at-requires
 fixed-at-requires c κs = search needs
 
-returns : tie.Need-returns
-unfolding step
-returns c = record {
-  says = λ o l. off (c .before .before .fixed-at .ensures .says _ fixed-sigmet (atCancelSigmet o) (atCancelSequence o) refl refl) (c .if1 .taken);
-  within = search needs;
-}
-
 sequence-at-requires : tie.Need-sequence-at-requires
 sequence-at-requires c κs = search needs
-
-returns-2 : tie.Need-returns-2
-unfolding step
-returns-2 c = record {
-  says = λ o l. off
-      (on (c .before .before .before .before .before .before .fixed-at .ensures .says _ fixed-sigmet (atCancelSigmet o) (atCancelSequence o) refl refl) (c .before .before .before .before .if1 .left)
-      (c .before .before .before .sequence-at .ensures .says (atCancelSequence o) (atCancelPeriod o) refl refl))
-      (c .if2 .taken);
-  within = search needs;
-}
 
 cancelled-at-requires : tie.Need-cancelled-at-requires
 cancelled-at-requires c κs = search needs
 
-returns-3 : tie.Need-returns-3
+returns : tie.Need-returns
 unfolding step
-returns-3 c =
-    let s = c .before .before .before .before .before .before .sequence-at in
+returns c =
+    let s = c .before .before .before .before .before .sequence-at in
     record {
-      says = λ o l. on (c .before .before .before .before .before .before .before .before .before .fixed-at .ensures .says _ fixed-sigmet (atCancelSigmet o) (atCancelSequence o) refl refl) (c .before .before .before .before .before .before .before .if1 .left)
-          (on (s .ensures .says (atCancelSequence o) (atCancelPeriod o) refl refl) (c .before .before .before .if2 .left)
-          (c .before .before .cancelled-at .ensures .says (atCancelPeriod o (s .result .sequence)) (λ p. atEnd (cancellationOf o (s .result .sequence) (p .from))) (rw l) refl));
-      within = search needs;
+      says = λ o l. then (c .before .before .before .before .before .before .fixed-at .ensures .says _ fixed-sigmet (atCancelSigmet o) (atCancelSequence o) (λ z. refl) refl)
+          (then (s .ensures .says (atCancelSequence o) (atCancelPeriod o) (λ z. refl) refl)
+          (c .before .before .before .cancelled-at .ensures .says (atCancelPeriod o (s .result .sequence)) (λ p. atEnd (cancellationOf o (s .result .sequence) (p .from))) (λ z. rw l) refl));
+      stands = search needs;
     }
 
 pub read-cancellation-spec : {M : Type 1} → statement M
 read-cancellation-spec =
-    tie.close
-    (tie.spec
-    fixed-at-requires
-    returns
-    sequence-at-requires
-    returns-2
-    cancelled-at-requires
-    returns-3)
+    tie.close (tie.spec fixed-at-requires sequence-at-requires cancelled-at-requires returns)

@@ -1,16 +1,9 @@
 -- `forecast_time_at` meets its contract: a time is taken where it is that of the end of VALID, and the `=` is no time. Assumes nothing.
 use borrow.Author.Needs.{needs}
-use mathlib.Core.Path.{_≡_, sym, _∙_}
-use borrow.Author.Tests.{not-true, not-false}
-use Rattle.groups.specs.Groups.{timeOf}
-use Rattle.passages.specs.Endings.{forecastTime}
-use Rattle.passages.proofs.KindLaws.{required-yes, required-no}
+use Rattle.passages.proofs.Leads.{takes}
 use Rattle.passages.proofs.Tells.{forecast-none}
 use Rattle.passages.proofs.endings.forecast_time_at.Statement.{statement}
 use Rattle.passages.proofs.endings.forecast_time_at.Tie as tie
-
-word-requires : tie.Need-word-requires
-word-requires c κs = search needs
 
 sub-time-word : tie.Need-sub-time-word
 sub-time-word c = search needs
@@ -33,22 +26,16 @@ good-time-requires c κs = search needs
 both-requires-2 : tie.Need-both-requires-2
 both-requires-2 c κs = search needs
 
-judged : (c : tie.After-both2) → c .both2 .result ≡ forecastTime (c .before .before .before .before .before .before .before .before .before .before .before .args .until) (c .before .before .before .before .before .before .before .time-word .result)
-judged c = rw (c .both2 .ensures, c .before .good-time .ensures, c .before .before .both .ensures)
+judged-requires : tie.Need-judged-requires
+judged-requires c κs = search needs
 
 returns : tie.Need-returns
-returns c =
-    required-no (search needs) (c .before .before .before .before .before .before .before .before .before .before .word .ensures) timeOf (forecastTime _) _ _ (c .before .before .before .before .before .before .before .before .time-word .ensures) (sym (judged (c .before)) ∙ not-true _ (c .if1 .taken))
-
-returns-2 : tie.Need-returns-2
-returns-2 c =
-    required-yes (search needs) (c .before .before .before .before .before .before .before .before .before .before .word .ensures) timeOf (forecastTime _) _ _ (c .before .before .before .before .before .before .before .before .time-word .ensures) (forecast-none _) (sym (judged (c .before)) ∙ not-false _ (c .if1 .left))
+returns c = takes (c .before .before .before .before .before .before .before .before .before .before .before .pre) (c .judged .ensures) (forecast-none _) (c .before .before .before .before .before .before .before .before .time-word .ensures) (rw (c .before .both2 .ensures, c .before .before .good-time .ensures, c .before .before .before .both .ensures))
 
 pub forecast-time-at-spec : {M : Type 1} → statement M
 forecast-time-at-spec =
     tie.close
     (tie.spec
-    word-requires
     sub-time-word
     part-time-word-start
     part-time-word-end
@@ -56,5 +43,5 @@ forecast-time-at-spec =
     both-requires
     good-time-requires
     both-requires-2
-    returns
-    returns-2)
+    judged-requires
+    returns)

@@ -1,38 +1,51 @@
--- `read_forecast` meets its contract: the forecast's time and its location are one run. Assumes nothing.
+-- `read_forecast` meets its contract. Assumes nothing.
 use borrow.Author.Needs.{needs}
 use mathlib.Core.Path.{refl}
+use Rattle.grammar.specs.States.Placing.{atLocation}
 use Rattle.grammar.specs.States.Site.{inForecast}
-use Rattle.passages.proofs.Chains.{on, off}
+use Rattle.grammar.specs.States.State.{atEnding, atForecast, atForecastAt, atForecastTime, atPlace}
+use Rattle.grammar.specs.Steps.{step}
+use Rattle.passages.proofs.Leads.{then}
+use Rattle.passages.proofs.FixedWords.{fixed-fcst, fixed-at}
+use Rattle.passages.proofs.FirstWords.{time-judged}
 use Rattle.passages.proofs.endings.read_forecast.Statement.{statement}
 use Rattle.passages.proofs.endings.read_forecast.Tie as tie
 
-read-forecast-time-requires : tie.Need-read-forecast-time-requires
-read-forecast-time-requires c κs = search needs
+intensity-at-requires : tie.Need-intensity-at-requires
+intensity-at-requires c κs = search needs
 
-no-extent-requires : tie.Need-no-extent-requires
-no-extent-requires c κs = search needs
+fixed-at-requires : tie.Need-fixed-at-requires
+fixed-at-requires c κs = search needs
 
-returns : tie.Need-returns
-returns c =
-    record { says = λ l a e f. off (c .before .before .before .read-forecast-time .ensures .says l e f) (c .before .if1 .taken); within = search needs }
+fixed-at-requires-2 : tie.Need-fixed-at-requires-2
+fixed-at-requires-2 c κs = search needs
+
+forecast-time-at-requires : tie.Need-forecast-time-at-requires
+forecast-time-at-requires c κs = search needs
 
 read-location-requires : tie.Need-read-location-requires
 read-location-requires c κs = search needs
 
-returns-2 : tie.Need-returns-2
-returns-2 c =
+returns : tie.Need-returns
+unfolding step
+returns c =
+    let i = c .before .before .before .before .before .before .intensity-at .result .intensity in
     record {
-      says = λ l a e f. on (c .before .before .before .before .read-forecast-time .ensures .says l e f) (c .before .before .if1 .left)
-          (c .before .read-location .ensures .says (inForecast l _) a refl);
-      within = search needs;
+      says = λ l a e f. then (c .before .before .before .before .before .before .intensity-at .ensures .says (atEnding l) (atForecast l) f refl)
+          (then (c .before .before .before .before .before .fixed-at .ensures .says _ fixed-fcst (atForecast l i) (atForecastAt l i) (λ z. refl) refl)
+          (then (c .before .before .before .before .fixed-at2 .ensures .says _ fixed-at (atForecastAt l i) (atForecastTime l i) (λ z. refl) refl)
+          (then (c .before .before .before .forecast-time-at .ensures .says (atForecastTime l i) (λ u. atPlace (inForecast l i) atLocation) (λ z. time-judged l i _ e) refl)
+          (c .before .before .read-location .ensures .says (inForecast l i) a refl))));
+      stands = search needs;
     }
 
 pub read-forecast-spec : {M : Type 1} → statement M
 read-forecast-spec =
     tie.close
     (tie.spec
-    read-forecast-time-requires
-    no-extent-requires
-    returns
+    intensity-at-requires
+    fixed-at-requires
+    fixed-at-requires-2
+    forecast-time-at-requires
     read-location-requires
-    returns-2)
+    returns)

@@ -1,25 +1,55 @@
--- `read_line` meets its contract: the line up to its sequence, then from `VALID` on. Assumes nothing.
+-- `read_line` meets its contract: six words, one after another. Assumes nothing.
 use borrow.Author.Needs.{needs}
-use Rattle.passages.proofs.Chains.{on, off}
+use mathlib.Core.Path.{refl}
+use Rattle.grammar.specs.States.State.{atUnit, atSigmet, atSequence, atValid, atPeriod, atOffice, atIndicator}
+use Rattle.grammar.specs.Steps.{step}
+use Rattle.passages.proofs.Leads.{then}
+use Rattle.passages.proofs.FixedWords.{fixed-sigmet, fixed-valid}
 use Rattle.passages.proofs.first_line.read_line.Statement.{statement}
 use Rattle.passages.proofs.first_line.read_line.Tie as tie
 
-read-unit-requires : tie.Need-read-unit-requires
-read-unit-requires c κs = search needs
+letters-at-requires : tie.Need-letters-at-requires
+letters-at-requires c κs = search needs
+
+fixed-at-requires : tie.Need-fixed-at-requires
+fixed-at-requires c κs = search needs
+
+sequence-at-requires : tie.Need-sequence-at-requires
+sequence-at-requires c κs = search needs
+
+fixed-at-requires-2 : tie.Need-fixed-at-requires-2
+fixed-at-requires-2 c κs = search needs
+
+period-at-requires : tie.Need-period-at-requires
+period-at-requires c κs = search needs
+
+office-at-requires : tie.Need-office-at-requires
+office-at-requires c κs = search needs
 
 returns : tie.Need-returns
-returns c = record { says = λ h. off (c .before .before .before .read-unit .ensures .says h) (c .if1 .taken); within = search needs }
-
-read-valid-requires : tie.Need-read-valid-requires
-read-valid-requires c κs = search needs
-
-returns-2 : tie.Need-returns-2
-returns-2 c =
-    let first = c .before .before .before .before .before .read-unit in
+unfolding step
+returns c =
+    let u = c .before .before .before .before .before .before .before .before .letters-at .result .letters in
+    let s = c .before .before .before .before .before .before .sequence-at .result .sequence in
+    let p = c .before .before .before .before .period-at .result .period in
     record {
-      says = λ h. on (first .ensures .says h) (c .before .before .if1 .left) (c .before .read-valid .ensures .says h (first .result .unit) (first .result .sequence));
-      within = search needs;
+      says = λ h. then (c .before .before .before .before .before .before .before .before .letters-at .ensures .says (atUnit h) (atSigmet h) (λ z. refl) refl)
+          (then (c .before .before .before .before .before .before .before .fixed-at .ensures .says _ fixed-sigmet (atSigmet h u) (atSequence h u) (λ z. refl) refl)
+          (then (c .before .before .before .before .before .before .sequence-at .ensures .says (atSequence h u) (atValid h u) (λ z. refl) refl)
+          (then (c .before .before .before .before .before .fixed-at2 .ensures .says _ fixed-valid (atValid h u s) (atPeriod h u s) (λ z. refl) refl)
+          (then (c .before .before .before .before .period-at .ensures .says (atPeriod h u s) (atOffice h u s) (λ z. refl) refl)
+          (c .before .before .before .office-at .ensures .says (atOffice h u s p) (λ o. atIndicator h (record { unit = u; sequence = s; valid = p; office = o })) (λ z. refl) refl)))));
+      stands = search needs;
     }
 
 pub read-line-spec : {M : Type 1} → statement M
-read-line-spec = tie.close (tie.spec read-unit-requires returns read-valid-requires returns-2)
+read-line-spec =
+    tie.close
+    (tie.spec
+    letters-at-requires
+    fixed-at-requires
+    sequence-at-requires
+    fixed-at-requires-2
+    period-at-requires
+    office-at-requires
+    returns)

@@ -1,11 +1,9 @@
--- `designator_at` meets its contract: kind 0 is that of no designator. Assumes nothing.
+-- `designator_at` meets its contract. Assumes nothing.
 use borrow.Author.Needs.{needs}
-use Rattle.passages.proofs.Tells.{told-yes, told-no, designator-told}
+use Rattle.passages.proofs.Leads.{told}
+use Rattle.passages.proofs.Tells.{designator-told}
 use Rattle.passages.proofs.kinds.designator_at.Statement.{statement}
 use Rattle.passages.proofs.kinds.designator_at.Tie as tie
-
-word-requires : tie.Need-word-requires
-word-requires c κs = search needs
 
 sub-designator-word : tie.Need-sub-designator-word
 sub-designator-word c = search needs
@@ -19,20 +17,19 @@ part-designator-word-end c = search needs
 designator-word-requires : tie.Need-designator-word-requires
 designator-word-requires c κs = search needs
 
-returns : tie.Need-returns
-returns c = told-no designator-told (search needs) (c .before .before .before .before .word .ensures) (c .before .before .designator-word .ensures) (c .if1 .taken)
+judged-requires : tie.Need-judged-requires
+judged-requires c κs = search needs
 
-returns-2 : tie.Need-returns-2
-returns-2 c = told-yes designator-told (search needs) (c .before .before .before .before .word .ensures) (c .before .before .designator-word .ensures) (c .if1 .left)
+returns : tie.Need-returns
+returns c = told designator-told (c .before .before .before .before .before .pre .0) (c .before .before .designator-word .ensures) (c .judged .ensures)
 
 pub designator-at-spec : {M : Type 1} → statement M
 designator-at-spec =
     tie.close
     (tie.spec
-    word-requires
     sub-designator-word
     part-designator-word-start
     part-designator-word-end
     designator-word-requires
-    returns
-    returns-2)
+    judged-requires
+    returns)

@@ -1,11 +1,9 @@
--- `intensity_at` meets its contract: 0 is no intensity. Assumes nothing.
+-- `intensity_at` meets its contract. Assumes nothing.
 use borrow.Author.Needs.{needs}
-use Rattle.passages.proofs.Tells.{told-yes, told-no, intensity-told}
+use Rattle.passages.proofs.Leads.{told}
+use Rattle.passages.proofs.Tells.{intensity-told}
 use Rattle.passages.proofs.kinds.intensity_at.Statement.{statement}
 use Rattle.passages.proofs.kinds.intensity_at.Tie as tie
-
-word-requires : tie.Need-word-requires
-word-requires c κs = search needs
 
 sub-intensity-word : tie.Need-sub-intensity-word
 sub-intensity-word c = search needs
@@ -19,20 +17,19 @@ part-intensity-word-end c = search needs
 intensity-word-requires : tie.Need-intensity-word-requires
 intensity-word-requires c κs = search needs
 
-returns : tie.Need-returns
-returns c = told-no intensity-told (search needs) (c .before .before .before .word .ensures) (c .before .intensity-word .ensures) (c .if1 .taken)
+judged-requires : tie.Need-judged-requires
+judged-requires c κs = search needs
 
-returns-2 : tie.Need-returns-2
-returns-2 c = told-yes intensity-told (search needs) (c .before .before .before .word .ensures) (c .before .intensity-word .ensures) (c .if1 .left)
+returns : tie.Need-returns
+returns c = told intensity-told (c .before .before .before .before .pre .0) (c .before .intensity-word .ensures) (c .judged .ensures)
 
 pub intensity-at-spec : {M : Type 1} → statement M
 intensity-at-spec =
     tie.close
     (tie.spec
-    word-requires
     sub-intensity-word
     part-intensity-word-start
     part-intensity-word-end
     intensity-word-requires
-    returns
-    returns-2)
+    judged-requires
+    returns)

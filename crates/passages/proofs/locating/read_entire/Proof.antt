@@ -23,8 +23,8 @@ returns c =
     let f : FixedWord (entireWord closing) (named .name) =
     ⊎-elim (λ w. rw (w .1) (entire-cta closing (w .0 .taken))) (λ w. rw (w .1) (entire-fir closing (w .0 .left))) (named .came) in
     record {
-      says = λ site q n. rw (c .before .no-extent .ensures) (fixed-there (c .before .before .fixed-at .ensures) f site atEntire n entirely (rw q));
-      within = search needs;
+      says = λ site q n. rw (c .before .no-extent .ensures) (fixed-there (c .before .before .fixed-at .ensures) f site atEntire n entirely (λ z. rw q));
+      stands = search needs;
     }
 
 pub read-entire-spec : {M : Type 1} → statement M

@@ -9,14 +9,14 @@ use Rattle.passages.proofs.naming.first_word.Tie as tie
 no-name-requires : tie.Need-no-name-requires
 no-name-requires c κs = search needs
 
-word-requires : tie.Need-word-requires
-word-requires c κs = search needs
+span-at-requires : tie.Need-span-at-requires
+span-at-requires c κs = search needs
 
 sub-long : tie.Need-sub-long
 sub-long c = search needs
 
 returns : tie.Need-returns
-returns c = first-long (c .before .word .ensures) _ (c .if1 .taken)
+returns c = first-long (c .before .span-at .ensures) _ (c .if1 .taken)
 
 sub-in-name : tie.Need-sub-in-name
 sub-in-name c = search needs
@@ -31,7 +31,7 @@ in-name-requires : tie.Need-in-name-requires
 in-name-requires c κs = search needs
 
 returns-2 : tie.Need-returns-2
-returns-2 c = first-other (c .before .before .before .before .word .ensures) (c .before .in-name .ensures) _ (search (not-true, needs))
+returns-2 c = first-other (c .before .before .before .before .span-at .ensures) (c .before .in-name .ensures) _ (search (not-true, needs))
 
 sub-put-word : tie.Need-sub-put-word
 sub-put-word c = search needs
@@ -48,7 +48,7 @@ put-word-requires c κs = search needs
 returns-3 : tie.Need-returns-3
 returns-3 c =
     let none = c .before .before .before .before .before .before .before .before .no-name in
-    first-in (c .before .before .before .before .before .before .before .word .ensures) (c .before .before .before .before .in-name .ensures) (none .result) _
+    first-in (c .before .before .before .before .before .before .before .span-at .ensures) (c .before .before .before .before .in-name .ensures) (none .result) _
     (search (not-false, needs)) (search needs) (search needs) (none .ensures) (c .put-word .ensures)
 
 pub first-word-spec : {M : Type 1} → statement M
@@ -56,7 +56,7 @@ first-word-spec =
     tie.close
     (tie.spec
     no-name-requires
-    word-requires
+    span-at-requires
     sub-long
     returns
     sub-in-name

@@ -5,8 +5,8 @@ use Rattle.passages.proofs.NameText.{next-long, next-other, next-in}
 use Rattle.passages.proofs.naming.next_word.Statement.{statement}
 use Rattle.passages.proofs.naming.next_word.Tie as tie
 
-word-requires : tie.Need-word-requires
-word-requires c κs = search needs
+span-at-requires : tie.Need-span-at-requires
+span-at-requires c κs = search needs
 
 sub-room : tie.Need-sub-room
 sub-room c = search needs
@@ -18,7 +18,7 @@ add-if1 : tie.Need-add-if1
 add-if1 c = search needs
 
 returns : tie.Need-returns
-returns c = next-long (c .before .before .word .ensures) _ (search needs) (search needs) (c .if1 .taken)
+returns c = next-long (c .before .before .span-at .ensures) _ (search needs) (search needs) (c .if1 .taken)
 
 sub-in-name : tie.Need-sub-in-name
 sub-in-name c = search needs
@@ -33,7 +33,7 @@ in-name-requires : tie.Need-in-name-requires
 in-name-requires c κs = search needs
 
 returns-2 : tie.Need-returns-2
-returns-2 c = next-other (c .before .before .before .before .before .word .ensures) (c .before .in-name .ensures) _ (search needs) (search (not-true, needs))
+returns-2 c = next-other (c .before .before .before .before .before .span-at .ensures) (c .before .in-name .ensures) _ (search needs) (search (not-true, needs))
 
 sub-grown-name : tie.Need-sub-grown-name
 sub-grown-name c = search needs
@@ -49,14 +49,14 @@ grown-name-requires c κs = search needs
 
 returns-3 : tie.Need-returns-3
 returns-3 c =
-    next-in (c .before .before .before .before .before .before .before .word .ensures) (c .before .before .before .in-name .ensures) _ _ (search (not-false, needs)) (search needs)
+    next-in (c .before .before .before .before .before .before .before .span-at .ensures) (c .before .before .before .in-name .ensures) _ _ (search (not-false, needs)) (search needs)
     (c .grown-name .ensures)
 
 pub next-word-spec : {M : Type 1} → statement M
 next-word-spec =
     tie.close
     (tie.spec
-    word-requires
+    span-at-requires
     sub-room
     sub-if1
     add-if1

@@ -1,52 +1,26 @@
--- `read_name` meets its contract: each turn the words so far are the name, and the next one goes behind them or ends it. Assumes nothing.
+-- `read_name` meets its contract. Assumes nothing.
 use borrow.Author.Needs.{needs}
-use borrow.Author.Tests.{not-true, not-false}
-use Prim.Native.Nat.{_-_}
-use native.Mathlib.Omega.{arith}
-use lib.ListN.{length}
-use Rattle.passages.proofs.NameText.{NamedSoFar, name-begun, name-refused, name-grown, name-ends}
+use Rattle.passages.proofs.NameText.{name-stays, name-going, name-denied}
 use Rattle.passages.proofs.naming.read_name.Statement.{statement}
 use Rattle.passages.proofs.naming.read_name.Tie as tie
 
-abbrev Inv-loop : tie.InvT-loop
-Inv-loop text at mountain limit refusal name₀ place₀ name place = NamedSoFar mountain limit refusal text at place name
+no-name-requires : tie.Need-no-name-requires
+no-name-requires c κs = search needs
 
-abbrev μ-loop : tie.MeasureT-loop
-μ-loop text at mountain limit refusal name₀ place₀ name place = length text - place
+returns : tie.Need-returns
+returns c = name-stays (c .before .if1 .taken) (search needs)
 
-first-word-requires : tie.Need-first-word-requires Inv-loop μ-loop
-first-word-requires c κs = search needs
+name-at-requires : tie.Need-name-at-requires
+name-at-requires c κs = search needs
 
-returns : tie.Need-returns Inv-loop μ-loop
-returns c = name-refused (search needs) (c .before .before .before .first-word .ensures) (search (not-true, needs)) (search needs)
+returns-2 : tie.Need-returns-2
+returns-2 c = name-denied (c .before .before .before .before .if1 .left) (c .before .before .before .name-at .ensures) (c .if2 .taken)
 
-loop-holds : tie.Need-loop-holds Inv-loop μ-loop
-loop-holds c = name-begun (search needs) (c .before .before .before .first-word .ensures) (search (not-false, needs))
+step-at-requires : tie.Need-step-at-requires
+step-at-requires c κs = search needs
 
-next-word-requires : tie.Need-next-word-requires Inv-loop μ-loop
-next-word-requires c κs = search needs
-
-returns-2 : tie.Need-returns-2 Inv-loop μ-loop
-returns-2 c = name-ends (c .before .before .before .loop .inv) (c .before .before .next-word .ensures) (search (not-true, needs))
-
-loop-less : tie.Need-loop-less Inv-loop μ-loop
-loop-less c =
-    let next = c .before .before .before .next-word .ensures in
-    omega (arith, next .moves (search (not-false, needs)), next .within)
-
-loop-again : tie.Need-loop-again Inv-loop μ-loop
-loop-again c = name-grown (c .before .before .before .before .loop .inv) (c .before .before .before .next-word .ensures) (search (not-false, needs))
+returns-3 : tie.Need-returns-3
+returns-3 c = name-going (c .before .before .before .before .before .if1 .left) (c .before .before .before .before .name-at .ensures) (c .before .if2 .left) (c .step-at .ensures)
 
 pub read-name-spec : {M : Type 1} → statement M
-read-name-spec =
-    tie.close
-    (tie.spec
-    Inv-loop
-    μ-loop
-    first-word-requires
-    returns
-    loop-holds
-    next-word-requires
-    returns-2
-    loop-less
-    loop-again)
+read-name-spec = tie.close (tie.spec no-name-requires returns name-at-requires returns-2 step-at-requires returns-3)

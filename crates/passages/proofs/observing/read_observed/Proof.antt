@@ -7,7 +7,7 @@ use Rattle.grammar.specs.States.Placing.{atLocation}
 use Rattle.grammar.specs.States.Site.{inReport}
 use Rattle.grammar.specs.States.State.{atObserved, atObservedTime, atPlace}
 use Rattle.grammar.specs.Steps.{step}
-use Rattle.passages.proofs.Chains.{on}
+use Rattle.passages.proofs.Leads.{then}
 use Rattle.passages.proofs.FixedWords.{fixed-at}
 use Rattle.passages.proofs.observing.read_observed.Statement.{statement}
 use Rattle.passages.proofs.observing.read_observed.Tie as tie
@@ -19,8 +19,8 @@ returns : tie.Need-returns
 unfolding step
 returns c =
     record {
-      says = λ p. c .before .before .perhaps-at .ensures .without (search (not-true, needs)) _ fixed-at (atObserved p _) _ (λ n. rw n) refl;
-      within = search needs;
+      says = λ p. c .before .before .before .perhaps-at .ensures .without (search (not-true, needs)) _ fixed-at (atObserved p _) _ (λ z n. rw n) refl;
+      stands = search needs;
     }
 
 time-at-requires : tie.Need-time-at-requires
@@ -29,12 +29,11 @@ time-at-requires c κs = search needs
 returns-2 : tie.Need-returns-2
 unfolding step
 returns-2 c =
-    let given = c .before .before .before .before .perhaps-at .ensures in
-    let word = c .before .before .before .before .before .before .args .word in
+    let word = c .before .before .before .before .before .before .before .args .word in
     record {
-      says = λ p. on (given .with (search (not-false, needs)) _ fixed-at (atObserved p word) (atObservedTime p word) (λ n. rw n)) refl
-          (c .before .time-at .ensures .says (atObservedTime p word) (λ u. atPlace (inReport (record { before = p; observation = timedAt word u })) atLocation) refl refl);
-      within = search needs;
+      says = λ p. then (c .before .before .before .before .before .perhaps-at .ensures .with (search (not-false, needs)) _ fixed-at (atObserved p word) (atObservedTime p word) (λ n. rw n))
+          (c .before .before .time-at .ensures .says (atObservedTime p word) (λ u. atPlace (inReport (record { before = p; observation = timedAt word u })) atLocation) (λ z. refl) refl);
+      stands = search needs;
     }
 
 pub read-observed-spec : {M : Type 1} → statement M

@@ -1,11 +1,8 @@
 -- `read_correction` meets its contract: a word that is no correction is judged as the unit. Assumes nothing.
 use borrow.Author.Needs.{needs}
-use Rattle.passages.proofs.Tells.{correction-yes, correction-no}
+use Rattle.passages.proofs.Leads.{correction-yes, correction-no}
 use Rattle.passages.proofs.opening.read_correction.Statement.{statement}
 use Rattle.passages.proofs.opening.read_correction.Tie as tie
-
-word-requires : tie.Need-word-requires
-word-requires c κs = search needs
 
 sub-correction-word : tie.Need-sub-correction-word
 sub-correction-word c = search needs
@@ -20,19 +17,22 @@ correction-word-requires : tie.Need-correction-word-requires
 correction-word-requires c κs = search needs
 
 returns : tie.Need-returns
-returns c = correction-no (search needs) (c .before .before .before .word .ensures) (c .before .correction-word .ensures) (c .if1 .taken)
+returns c = correction-no (c .before .before .before .before .pre) (c .before .correction-word .ensures) (c .if1 .taken)
+
+step-at-requires : tie.Need-step-at-requires
+step-at-requires c κs = search needs
 
 returns-2 : tie.Need-returns-2
-returns-2 c = correction-yes (search needs) (c .before .before .before .word .ensures) (c .before .correction-word .ensures) (c .if1 .left)
+returns-2 c = correction-yes (c .before .before .before .before .before .pre) (c .before .before .correction-word .ensures) (c .before .if1 .left) (c .step-at .ensures)
 
 pub read-correction-spec : {M : Type 1} → statement M
 read-correction-spec =
     tie.close
     (tie.spec
-    word-requires
     sub-correction-word
     part-correction-word-start
     part-correction-word-end
     correction-word-requires
     returns
+    step-at-requires
     returns-2)

@@ -4,14 +4,10 @@ use mathlib.Core.Logic.{⊎-elim}
 use mathlib.Core.Path.{_≡_, _∙_}
 use Prim.Native.Nat.{_+_}
 use lib.Dec.{ltb, leb}
-use borrow.Author.Tests.{not-true, not-false}
 use Rattle.lists.specs.Choice.{pick}
-use Rattle.passages.proofs.OutlineLaws.{longitude-bad, longitude-unfit, longitude-yes}
+use Rattle.passages.proofs.OutlineLaws.{longitude-says}
 use Rattle.passages.proofs.outlining.next_longitude.Statement.{statement}
 use Rattle.passages.proofs.outlining.next_longitude.Tie as tie
-
-word-requires : tie.Need-word-requires
-word-requires c κs = search needs
 
 sub-longitude : tie.Need-sub-longitude
 sub-longitude c = search needs
@@ -34,31 +30,24 @@ add-fits c = search needs
 add-fits-2 : tie.Need-add-fits-2
 add-fits-2 c = search needs
 
+both-requires : tie.Need-both-requires
+both-requires c κs = search needs
+
+judged-requires : tie.Need-judged-requires
+judged-requires c κs = search needs
+
 -- the one test or the other
 fits-is : (c : tie.Joined1) → c .if1 .fits
-    ≡ pick (c .before .closes .result) (leb 4 (c .before .before .before .before .before .before .args .count + 1)) (ltb (c .before .before .before .before .before .before .args .count + 1) 7)
+    ≡ pick (c .before .closes .result) (leb 4 (c .before .before .before .before .before .args .count + 1)) (ltb (c .before .before .before .before .before .args .count + 1) 7)
 fits-is c = ⊎-elim (λ w. w .1 ∙ rw (w .0 .taken)) (λ w. w .1 ∙ rw (w .0 .left)) (c .if1 .came)
 
 returns : tie.Need-returns
-returns c =
-    longitude-bad (search needs) (c .before .before .before .before .before .before .word .ensures) (c .before .before .before .before .longitude .ensures)
-    (c .before .before .before .closes .ensures) (fits-is (c .before .before)) (λ z. search needs) (c .if2 .taken)
-
-returns-2 : tie.Need-returns-2
-returns-2 c =
-    longitude-unfit (search needs) (c .before .before .before .before .before .before .before .word .ensures) (c .before .before .before .before .before .longitude .ensures)
-    (c .before .before .before .before .closes .ensures) (fits-is (c .before .before .before)) (λ z. search needs) (search (not-true, needs))
-
-returns-3 : tie.Need-returns-3
-returns-3 c =
-    longitude-yes (search needs) (c .before .before .before .before .before .before .before .word .ensures) (c .before .before .before .before .before .longitude .ensures)
-    (c .before .before .before .before .closes .ensures) (fits-is (c .before .before .before)) (c .before .if2 .left) (search (not-false, needs))
+returns c = longitude-says (c .before .before .before .before .before .before .before .before .pre .0) (c .before .before .before .before .before .longitude .ensures) (c .before .before .before .before .closes .ensures) (fits-is (c .before .before .before)) (c .before .both .ensures) (c .judged .ensures) (λ z. search needs)
 
 pub next-longitude-spec : {M : Type 1} → statement M
 next-longitude-spec =
     tie.close
     (tie.spec
-    word-requires
     sub-longitude
     part-longitude-start
     part-longitude-end
@@ -66,6 +55,6 @@ next-longitude-spec =
     closes-requires
     add-fits
     add-fits-2
-    returns
-    returns-2
-    returns-3)
+    both-requires
+    judged-requires
+    returns)

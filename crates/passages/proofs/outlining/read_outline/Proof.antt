@@ -8,10 +8,10 @@ use Rattle.passages.proofs.outlining.read_outline.Statement.{statement}
 use Rattle.passages.proofs.outlining.read_outline.Tie as tie
 
 abbrev Inv-loop : tie.InvT-loop
-Inv-loop text at refusal points₀ count₀ place₀ points count place = Gone text at refusal points count place
+Inv-loop text refusal points₀ count₀ step₀ points count step = Gone text step₀ refusal points count step
 
 abbrev μ-loop : tie.MeasureT-loop
-μ-loop text at refusal points₀ count₀ place₀ points count place = mostPoints - count
+μ-loop text refusal points₀ count₀ step₀ points count step = mostPoints - count
 
 no-point-requires : tie.Need-no-point-requires Inv-loop μ-loop
 no-point-requires c κs = search needs
@@ -29,7 +29,7 @@ no-extent-requires : tie.Need-no-extent-requires Inv-loop μ-loop
 no-extent-requires c κs = search needs
 
 returns : tie.Need-returns Inv-loop μ-loop
-returns c = gone-refused (c .before .before .before .before .before .loop .inv) (c .before .before .before .next-point .ensures) (c .before .if1 .taken) _
+returns c = gone-refused (c .before .before .before .before .before .before .loop .inv) (c .before .before .before .before .next-point .ensures) (c .before .if1 .taken) _
 
 mul-points : tie.Need-mul-points Inv-loop μ-loop
 mul-points c = search needs
@@ -44,13 +44,13 @@ cast-t19 : tie.Need-cast-t19 Inv-loop μ-loop
 cast-t19 c = search needs
 
 returns-2 : tie.Need-returns-2 Inv-loop μ-loop
-returns-2 c = gone-over (c .before .before .before .before .before .before .loop .inv) (c .before .before .before .before .next-point .ensures) (c .before .before .if1 .left) (c .if2 .taken)
+returns-2 c = gone-over (c .before .before .before .before .before .before .before .loop .inv) (c .before .before .before .before .before .next-point .ensures) (c .if2 .taken)
 
 loop-less : tie.Need-loop-less Inv-loop μ-loop
 loop-less c = omega arith
 
 loop-again : tie.Need-loop-again Inv-loop μ-loop
-loop-again c = gone-on (c .before .before .before .before .before .before .loop .inv) (c .before .before .before .before .next-point .ensures) (c .before .before .if1 .left) (c .if2 .left)
+loop-again c = gone-on (c .before .before .before .before .before .before .before .loop .inv) (c .before .before .before .before .before .next-point .ensures) (c .before .before .if1 .left) (c .if2 .left)
 
 pub read-outline-spec : {M : Type 1} → statement M
 read-outline-spec =

@@ -1,43 +1,53 @@
--- `read_long_test` meets its contract: three parts, one after another. Assumes nothing.
+-- `read_long_test` meets its contract: the words of the longest text, one after another. Assumes nothing.
 use borrow.Author.Needs.{needs}
-use Rattle.passages.proofs.Chains.{on, off}
+use mathlib.Core.Path.{refl}
+use Rattle.message.specs.Words.{testTexts}
+use Rattle.grammar.specs.States.State.{atTestText}
+use Rattle.grammar.specs.Steps.{step}
+use Rattle.passages.proofs.Leads.{then}
+use Rattle.passages.proofs.FixedWords.{fixed-test, fixed-this, fixed-is, fixed-a, fixed-sigmet-comma}
 use Rattle.passages.proofs.testing.read_long_test.Statement.{statement}
 use Rattle.passages.proofs.testing.read_long_test.Tie as tie
 
-read-this-is-a-requires : tie.Need-read-this-is-a-requires
-read-this-is-a-requires c κs = search needs
+fixed-at-requires : tie.Need-fixed-at-requires
+fixed-at-requires c κs = search needs
 
-returns : tie.Need-returns
-returns c = record { says = λ o. off (c .before .before .read-this-is-a .ensures .says o) (c .if1 .taken); within = search needs }
+fixed-at-requires-2 : tie.Need-fixed-at-requires-2
+fixed-at-requires-2 c κs = search needs
 
-read-test-sigmet-requires : tie.Need-read-test-sigmet-requires
-read-test-sigmet-requires c κs = search needs
+fixed-at-requires-3 : tie.Need-fixed-at-requires-3
+fixed-at-requires-3 c κs = search needs
 
-returns-2 : tie.Need-returns-2
-returns-2 c =
-    record {
-      says = λ o. off (on (c .before .before .before .before .before .read-this-is-a .ensures .says o) (c .before .before .before .if1 .left) (c .before .before .read-test-sigmet .ensures .says o)) (c .if2 .taken);
-      within = search needs;
-    }
+fixed-at-requires-4 : tie.Need-fixed-at-requires-4
+fixed-at-requires-4 c κs = search needs
+
+fixed-at-requires-5 : tie.Need-fixed-at-requires-5
+fixed-at-requires-5 c κs = search needs
 
 read-please-requires : tie.Need-read-please-requires
 read-please-requires c κs = search needs
 
-returns-3 : tie.Need-returns-3
-returns-3 c =
+returns : tie.Need-returns
+unfolding step testTexts
+returns c =
     record {
-      says = λ o. on (c .before .before .before .before .before .before .read-this-is-a .ensures .says o) (c .before .before .before .before .if1 .left)
-          (on (c .before .before .before .read-test-sigmet .ensures .says o) (c .before .if2 .left) (c .read-please .ensures .third o));
-      within = search needs;
+      says = λ o. then (c .before .before .before .before .before .fixed-at .ensures .says _ fixed-this (atTestText o 3 1) (atTestText o 3 2) (λ z. refl) refl)
+          (then (c .before .before .before .before .fixed-at2 .ensures .says _ fixed-is (atTestText o 3 2) (atTestText o 3 3) (λ z. refl) refl)
+          (then (c .before .before .before .fixed-at3 .ensures .says _ fixed-a (atTestText o 3 3) (atTestText o 3 4) (λ z. refl) refl)
+          (then (c .before .before .fixed-at4 .ensures .says _ fixed-test (atTestText o 3 4) (atTestText o 3 5) (λ z. refl) refl)
+          (then (c .before .fixed-at5 .ensures .says _ fixed-sigmet-comma (atTestText o 3 5) (atTestText o 3 6) (λ z. refl) refl)
+          (c .read-please .ensures .third o)))));
+      stands = search needs;
     }
 
 pub read-long-test-spec : {M : Type 1} → statement M
 read-long-test-spec =
     tie.close
     (tie.spec
-    read-this-is-a-requires
-    returns
-    read-test-sigmet-requires
-    returns-2
+    fixed-at-requires
+    fixed-at-requires-2
+    fixed-at-requires-3
+    fixed-at-requires-4
+    fixed-at-requires-5
     read-please-requires
-    returns-3)
+    returns)

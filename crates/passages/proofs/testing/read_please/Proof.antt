@@ -5,7 +5,7 @@ use Rattle.message.specs.Words.{testTexts}
 use Rattle.grammar.specs.Records.{testOf}
 use Rattle.grammar.specs.States.State.{atTestText, atEnd}
 use Rattle.grammar.specs.Steps.{step}
-use Rattle.passages.proofs.Chains.{on, off}
+use Rattle.passages.proofs.Leads.{then}
 use Rattle.passages.proofs.FixedWords.{fixed-please}
 use Rattle.passages.proofs.Forming.{disregard-told}
 use Rattle.passages.proofs.testing.read_please.Statement.{statement}
@@ -14,31 +14,21 @@ use Rattle.passages.proofs.testing.read_please.Tie as tie
 fixed-at-requires : tie.Need-fixed-at-requires
 fixed-at-requires c κs = search needs
 
-returns : tie.Need-returns
-unfolding step testTexts
-returns c =
-    let please = c .before .before .fixed-at .ensures in
-    record {
-      second = λ o. off (please .says _ fixed-please (atTestText o 2 2) (atTestText o 2 3) refl refl) (c .if1 .taken);
-      third = λ o. off (please .says _ fixed-please (atTestText o 3 6) (atTestText o 3 7) refl refl) (c .if1 .taken);
-      within = search needs;
-    }
-
 long-at-requires : tie.Need-long-at-requires
 long-at-requires c κs = search needs
 
-returns-2 : tie.Need-returns-2
+returns : tie.Need-returns
 unfolding step testTexts
-returns-2 c =
-    let please = c .before .before .before .fixed-at .ensures in
+returns c =
+    let please = c .before .fixed-at .ensures in
     let disregard = c .long-at .ensures in
     record {
-      second = λ o. on (please .says _ fixed-please (atTestText o 2 2) (atTestText o 2 3) refl refl) (c .before .if1 .left)
-          (disregard .says (atTestText o 2 3) (λ _. atEnd (testOf o 2)) (rw disregard-told) refl);
-      third = λ o. on (please .says _ fixed-please (atTestText o 3 6) (atTestText o 3 7) refl refl) (c .before .if1 .left)
-          (disregard .says (atTestText o 3 7) (λ _. atEnd (testOf o 3)) (rw disregard-told) refl);
-      within = search needs;
+      second = λ o. then (please .says _ fixed-please (atTestText o 2 2) (atTestText o 2 3) (λ z. refl) refl)
+          (disregard .says (atTestText o 2 3) (atEnd (testOf o 2)) (λ z. rw disregard-told) refl);
+      third = λ o. then (please .says _ fixed-please (atTestText o 3 6) (atTestText o 3 7) (λ z. refl) refl)
+          (disregard .says (atTestText o 3 7) (atEnd (testOf o 3)) (λ z. rw disregard-told) refl);
+      stands = search needs;
     }
 
 pub read-please-spec : {M : Type 1} → statement M
-read-please-spec = tie.close (tie.spec fixed-at-requires returns long-at-requires returns-2)
+read-please-spec = tie.close (tie.spec fixed-at-requires long-at-requires returns)

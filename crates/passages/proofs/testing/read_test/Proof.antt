@@ -4,7 +4,7 @@ use mathlib.Core.Path.{refl}
 use borrow.Author.Tests.{not-true, not-false}
 use Rattle.grammar.specs.States.State.{atTest, atTestText}
 use Rattle.grammar.specs.Steps.{step}
-use Rattle.passages.proofs.Chains.{on}
+use Rattle.passages.proofs.Leads.{then}
 use Rattle.passages.proofs.FixedWords.{fixed-sigmet}
 use Rattle.passages.proofs.testing.read_test.Statement.{statement}
 use Rattle.passages.proofs.testing.read_test.Tie as tie
@@ -14,7 +14,7 @@ perhaps-at-requires c κs = search needs
 
 returns : tie.Need-returns
 unfolding step
-returns c = record { says = λ o. c .before .before .perhaps-at .ensures .without (search (not-true, needs)) _ fixed-sigmet (atTest o) _ (λ n. rw n) refl; within = search needs }
+returns c = record { says = λ o. c .before .before .before .perhaps-at .ensures .without (search (not-true, needs)) _ fixed-sigmet (atTest o) _ (λ z n. rw n) refl; stands = search needs }
 
 read-please-requires : tie.Need-read-please-requires
 read-please-requires c κs = search needs
@@ -23,9 +23,8 @@ returns-2 : tie.Need-returns-2
 unfolding step
 returns-2 c =
     record {
-      says = λ o. on (c .before .before .before .perhaps-at .ensures .with (search (not-false, needs)) _ fixed-sigmet (atTest o) (atTestText o 2 2) (λ y. rw y)) refl
-          (c .read-please .ensures .second o);
-      within = search needs;
+      says = λ o. then (c .before .before .before .perhaps-at .ensures .with (search (not-false, needs)) _ fixed-sigmet (atTest o) (atTestText o 2 2) (λ y. rw y)) (c .read-please .ensures .second o);
+      stands = search needs;
     }
 
 pub read-test-spec : {M : Type 1} → statement M

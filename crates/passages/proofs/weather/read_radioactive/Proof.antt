@@ -12,7 +12,7 @@ fixed-at-requires c κs = search needs
 
 returns : tie.Need-returns
 unfolding step
-returns c = record { says = λ o. c .fixed-at .ensures .says _ fixed-cld (atRadioactive o) _ refl refl; within = search needs }
+returns c = record { says = λ o. c .fixed-at .ensures .says _ fixed-cld (atRadioactive o) _ (λ z. refl) refl; stands = search needs }
 
 pub read-radioactive-spec : {M : Type 1} → statement M
 read-radioactive-spec = tie.close (tie.spec fixed-at-requires returns)

@@ -4,64 +4,79 @@ use mathlib.Core.Path.{refl}
 use native.Mathlib.Omega.{arith}
 use Rattle.grammar.specs.States.State.{atSevere, atIce}
 use Rattle.grammar.specs.Steps.{step}
-use Rattle.passages.proofs.Chains.{on}
+use Rattle.passages.proofs.Leads.{then, goes-code, code-going, code-yes, code-no, takes-fixed}
 use Rattle.passages.proofs.FixedWords.{fixed-turb, fixed-mtw, fixed-ice, fixed-freezing-rain}
-use Rattle.passages.proofs.Forming.{goes-ice}
-use Rattle.passages.proofs.KindLaws.{is-yes, is-no, goes-fixed, dead-word}
 use Rattle.passages.proofs.weather.read_severe.Statement.{statement}
 use Rattle.passages.proofs.weather.read_severe.Tie as tie
 
-code-at-requires : tie.Need-code-at-requires
-code-at-requires c κs = search needs
+code-of-requires : tie.Need-code-of-requires
+code-of-requires c κs = search needs
+
+step-at-requires : tie.Need-step-at-requires
+step-at-requires c κs = search needs
 
 returns : tie.Need-returns
 unfolding step
 returns c =
-    let k = c .before .before .code-at .ensures in
-    record { says = λ o. goes-fixed (search needs) k fixed-turb (c .if1 .taken) (atSevere o) _ (rw (is-yes (search needs) k fixed-turb (c .if1 .taken))); within = search needs }
+    let f = c .before .before .before .before .pre in
+    let e = c .before .before .code-of .ensures in
+    record { says = λ o. goes-code f e fixed-turb (c .before .if1 .taken) (c .step-at .ensures) (atSevere o) _ (rw (code-yes f e fixed-turb (c .before .if1 .taken))); stands = search needs }
+
+step-at-requires-2 : tie.Need-step-at-requires-2
+step-at-requires-2 c κs = search needs
 
 returns-2 : tie.Need-returns-2
 unfolding step
 returns-2 c =
-    let k = c .before .before .before .before .code-at .ensures in
+    let f = c .before .before .before .before .before .pre in
+    let e = c .before .before .before .code-of .ensures in
+    let z = code-going f e fixed-mtw (c .before .if2 .taken) in
     record {
-      says = λ o. goes-fixed (search needs) k fixed-mtw (c .if2 .taken) (atSevere o) _
-          (rw (is-no (search needs) k fixed-turb (c .before .before .if1 .left), is-no (search needs) k fixed-ice (λ e. omega (arith, c .if2 .taken)), is-yes (search needs) k fixed-mtw (c .if2 .taken)));
-      within = search needs;
+      says = λ o. goes-code f e fixed-mtw (c .before .if2 .taken) (c .step-at2 .ensures) (atSevere o) _
+          (rw (code-no f e z fixed-turb (c .before .before .if1 .left), code-no f e z fixed-ice (λ i. omega (arith, c .before .if2 .taken)), code-yes f e fixed-mtw (c .before .if2 .taken)));
+      stands = search needs;
     }
 
-returns-3 : tie.Need-returns-3
-unfolding step
-returns-3 c =
-    let k = c .before .before .before .before .before .before .code-at .ensures in
-    record {
-      says = λ o. dead-word (search needs) (k .word) (atSevere o) _ 7 refl
-          (rw (is-no (search needs) k fixed-turb (c .before .before .before .before .if1 .left), is-no (search needs) k fixed-ice (c .if3 .taken), is-no (search needs) k fixed-mtw (c .before .before .if2 .left)));
-      within = search needs;
-    }
+judged-requires : tie.Need-judged-requires
+judged-requires c κs = search needs
 
 perhaps-at-requires : tie.Need-perhaps-at-requires
 perhaps-at-requires c κs = search needs
 
+returns-3 : tie.Need-returns-3
+unfolding step
+returns-3 c =
+    let f = c .before .before .before .before .before .before .before .before .pre in
+    let e = c .before .before .before .before .before .before .code-of .ensures in
+    record {
+      says = λ o. then
+          (takes-fixed f e (c .before .before .before .judged .ensures) .says _ fixed-ice (atSevere o) (atIce o) (λ z. rw (code-no f e z fixed-turb (c .before .before .before .before .before .if1 .left), code-no f e z fixed-mtw (c .before .before .before .before .if2 .left))) refl)
+          (c .before .before .perhaps-at .ensures .with (c .if3 .taken) _ fixed-freezing-rain (atIce o) _ (λ y. rw y));
+      stands = search needs;
+    }
+
 returns-4 : tie.Need-returns-4
 unfolding step
 returns-4 c =
+    let f = c .before .before .before .before .before .before .before .before .pre in
+    let e = c .before .before .before .before .before .before .code-of .ensures in
     record {
-      says = λ o. on (goes-ice (search needs) (c .before .before .before .before .before .before .before .before .code-at .ensures) (c .before .before .if3 .left) o) refl
-          (c .before .perhaps-at .ensures .with (c .if4 .taken) _ fixed-freezing-rain (atIce o) _ (λ y. rw y));
-      within = search needs;
-    }
-
-returns-5 : tie.Need-returns-5
-unfolding step
-returns-5 c =
-    record {
-      says = λ o. on (goes-ice (search needs) (c .before .before .before .before .before .before .before .before .code-at .ensures) (c .before .before .if3 .left) o) refl
-          (c .before .perhaps-at .ensures .without (c .if4 .left) _ fixed-freezing-rain (atIce o) _ (λ n. rw n) refl);
-      within = search needs;
+      says = λ o. then
+          (takes-fixed f e (c .before .before .before .judged .ensures) .says _ fixed-ice (atSevere o) (atIce o) (λ z. rw (code-no f e z fixed-turb (c .before .before .before .before .before .if1 .left), code-no f e z fixed-mtw (c .before .before .before .before .if2 .left))) refl)
+          (c .before .before .perhaps-at .ensures .without (c .if3 .left) _ fixed-freezing-rain (atIce o) _ (λ z n. rw n) refl);
+      stands = search needs;
     }
 
 pub read-severe-spec : {M : Type 1} → statement M
 read-severe-spec =
     tie.close
-    (tie.spec code-at-requires returns returns-2 returns-3 perhaps-at-requires returns-4 returns-5)
+    (tie.spec
+    code-of-requires
+    step-at-requires
+    returns
+    step-at-requires-2
+    returns-2
+    judged-requires
+    perhaps-at-requires
+    returns-3
+    returns-4)

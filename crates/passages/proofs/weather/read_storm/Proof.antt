@@ -3,49 +3,55 @@ use borrow.Author.Needs.{needs}
 use mathlib.Core.Path.{refl}
 use Rattle.grammar.specs.States.State.{atStorm}
 use Rattle.grammar.specs.Steps.{step}
+use Rattle.passages.proofs.Leads.{goes-code, code-yes, code-no, takes-fixed}
 use Rattle.passages.proofs.FixedWords.{fixed-ts, fixed-tsgr}
-use Rattle.passages.proofs.KindLaws.{is-yes, is-no, goes-fixed, dead-word}
 use Rattle.passages.proofs.weather.read_storm.Statement.{statement}
 use Rattle.passages.proofs.weather.read_storm.Tie as tie
 
-code-at-requires : tie.Need-code-at-requires
-code-at-requires c κs = search needs
+code-of-requires : tie.Need-code-of-requires
+code-of-requires c κs = search needs
 
-mul-t6 : tie.Need-mul-t6
-mul-t6 c = search needs
-
-sub-t7 : tie.Need-sub-t7
-sub-t7 c = search needs
-
-returns : tie.Need-returns
-unfolding step
-returns c =
-    let k = c .before .before .code-at .ensures in
-    record { says = λ o. goes-fixed (search needs) k fixed-ts (c .if1 .taken) (atStorm o _) _ (rw (is-yes (search needs) k fixed-ts (c .if1 .taken))); within = search needs }
+step-at-requires : tie.Need-step-at-requires
+step-at-requires c κs = search needs
 
 mul-t8 : tie.Need-mul-t8
 mul-t8 c = search needs
 
+sub-t9 : tie.Need-sub-t9
+sub-t9 c = search needs
+
+returns : tie.Need-returns
+unfolding step
+returns c =
+    let f = c .before .before .before .before .pre .0 in
+    let e = c .before .before .code-of .ensures in
+    record { says = λ o. goes-code f e fixed-ts (c .before .if1 .taken) (c .step-at .ensures) (atStorm o _) _ (rw (code-yes f e fixed-ts (c .before .if1 .taken))); stands = search needs }
+
+judged-requires : tie.Need-judged-requires
+judged-requires c κs = search needs
+
+mul-t10 : tie.Need-mul-t10
+mul-t10 c = search needs
+
 returns-2 : tie.Need-returns-2
 unfolding step
 returns-2 c =
-    let k = c .before .before .before .before .code-at .ensures in
+    let f = c .before .before .before .before .pre .0 in
+    let e = c .before .before .code-of .ensures in
     record {
-      says = λ o. goes-fixed (search needs) k fixed-tsgr (c .if2 .taken) (atStorm o _) _
-          (rw (is-no (search needs) k fixed-ts (c .before .before .if1 .left), is-yes (search needs) k fixed-tsgr (c .if2 .taken)));
-      within = search needs;
-    }
-
-returns-3 : tie.Need-returns-3
-unfolding step
-returns-3 c =
-    let k = c .before .before .before .before .code-at .ensures in
-    record {
-      says = λ o. dead-word (search needs) (k .word) (atStorm o _) _ 7 refl
-          (rw (is-no (search needs) k fixed-ts (c .before .before .if1 .left), is-no (search needs) k fixed-tsgr (c .if2 .left)));
-      within = search needs;
+      says = λ o. takes-fixed f e (c .judged .ensures) .says _ fixed-tsgr (atStorm o _) _ (λ z. rw (code-no f e z fixed-ts (c .before .if1 .left))) refl;
+      stands = search needs;
     }
 
 pub read-storm-spec : {M : Type 1} → statement M
 read-storm-spec =
-    tie.close (tie.spec code-at-requires mul-t6 sub-t7 returns mul-t8 returns-2 returns-3)
+    tie.close
+    (tie.spec
+    code-of-requires
+    step-at-requires
+    mul-t8
+    sub-t9
+    returns
+    judged-requires
+    mul-t10
+    returns-2)
