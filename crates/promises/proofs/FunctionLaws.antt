@@ -14,9 +14,9 @@ use Rattle.pens.proofs.Determined as pens-laws
 use Rattle.calendar.proofs.Determined as calendar-laws
 use Rattle.message.proofs.Determined as message-laws
 use Rattle.grammar.proofs.Determined as grammar-laws
-use Rattle.passages.proofs.Determined as passages-laws
+use Rattle.reader_sections.proofs.Determined as reader-sections-laws
 use Rattle.reader.proofs.Determined as reader-laws
-use Rattle.sections.proofs.Determined as sections-laws
+use Rattle.writer_sections.proofs.Determined as writer-sections-laws
 use Rattle.writer.proofs.Determined as writer-laws
 use Rattle.places.proofs.Determined as places-laws
 use Rattle.board.proofs.Determined as board-laws
@@ -90,9 +90,9 @@ functions =
       message-is-good = message-laws.is-good-determined;
       message-names-itself = message-laws.names-itself-determined;
       grammar-refusal = grammar-laws.refusal-determined;
-      passages-read-text = passages-laws.read-text-determined;
+      reader-sections-read-text = reader-sections-laws.read-text-determined;
       reader-read = reader-laws.read-determined;
-      sections-put-text = sections-laws.put-text-settles;
+      writer-sections-put-text = writer-sections-laws.put-text-settles;
       writer-write = writer-laws.write-settles;
       places-same-identity = places-laws.same-identity-determined;
       places-no-place = places-laws.no-place-determined;

@@ -132,12 +132,12 @@ use Rattle.message.proofs.names_itself.Kinds as message-names-itself-kinds
 use Rattle.message.proofs.names_itself.Reads as message-names-itself-reads
 use Rattle.grammar.proofs.refusal.Kinds as grammar-refusal-kinds
 use Rattle.grammar.proofs.refusal.Reads as grammar-refusal-reads
-use Rattle.passages.proofs.read_text.Kinds as passages-read-text-kinds
-use Rattle.passages.proofs.read_text.Reads as passages-read-text-reads
+use Rattle.reader_sections.proofs.read_text.Kinds as reader-sections-read-text-kinds
+use Rattle.reader_sections.proofs.read_text.Reads as reader-sections-read-text-reads
 use Rattle.reader.proofs.read.Kinds as reader-read-kinds
 use Rattle.reader.proofs.read.Reads as reader-read-reads
-use Rattle.sections.proofs.put_text.Kinds as sections-put-text-kinds
-use Rattle.sections.proofs.put_text.Reads as sections-put-text-reads
+use Rattle.writer_sections.proofs.put_text.Kinds as writer-sections-put-text-kinds
+use Rattle.writer_sections.proofs.put_text.Reads as writer-sections-put-text-reads
 use Rattle.writer.proofs.write.Kinds as writer-write-kinds
 use Rattle.writer.proofs.write.Reads as writer-write-reads
 use Rattle.places.proofs.same_identity.Kinds as places-same-identity-kinds
@@ -240,12 +240,12 @@ pub record Functions : Type 0 where
   pub message-names-itself : Determines 0 message-names-itself-kinds.ps message-names-itself-kinds.r message-names-itself-reads.Learnt
   -- grammar
   pub grammar-refusal : Determines 0 grammar-refusal-kinds.ps grammar-refusal-kinds.r grammar-refusal-reads.Learnt
-  -- passages
-  pub passages-read-text : Determines 1 passages-read-text-kinds.ps passages-read-text-kinds.r passages-read-text-reads.Learnt
+  -- reader_sections
+  pub reader-sections-read-text : Determines 1 reader-sections-read-text-kinds.ps reader-sections-read-text-kinds.r reader-sections-read-text-reads.Learnt
   -- reader
   pub reader-read : Determines 1 reader-read-kinds.ps reader-read-kinds.r reader-read-reads.Learnt
-  -- sections
-  pub sections-put-text : Settles 1 sections-put-text-kinds.ps sections-put-text-kinds.r sections-put-text-reads.Learnt
+  -- writer_sections
+  pub writer-sections-put-text : Settles 1 writer-sections-put-text-kinds.ps writer-sections-put-text-kinds.r writer-sections-put-text-reads.Learnt
   -- writer
   pub writer-write : Settles 1 writer-write-kinds.ps writer-write-kinds.r writer-write-reads.Learnt
   -- places

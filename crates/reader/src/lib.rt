@@ -3,7 +3,7 @@ ghost use mathlib.Core.Path.{_≡_};
 ghost use Rattle.grammar.specs.Reads.{readOf};
 use grammar::Reply;
 use grammar::refusal;
-use passages::read_text;
+use reader_sections::read_text;
 use words::check;
 
 // The reply to any bytes: numbers 1 to 3, then the words.

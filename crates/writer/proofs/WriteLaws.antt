@@ -16,7 +16,7 @@ use Rattle.grammar.specs.Writes.{writeOf}
 use Rattle.grammar.proofs.Lengths.{text-fits}
 use Rattle.pens.specs.Pens.{Puts}
 use Rattle.pens.proofs.PenLaws.{put-place, put-page}
-use Rattle.sections.specs.Sections.{goodText}
+use Rattle.writer_sections.specs.Sections.{goodText}
 use Rattle.writer.specs.Writing.{wrote}
 use Rattle.writer.specs.declared.Written.{Written}
 

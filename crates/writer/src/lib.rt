@@ -4,7 +4,7 @@ ghost use Rattle.grammar.specs.Writes.{writeOf};
 ghost use Rattle.writer.specs.Writing.{wrote};
 use message::Record;
 use pens::put_all;
-use sections::put_text;
+use writer_sections::put_text;
 
 // The most bytes that a text may have.
 const MOST_BYTES: usize = 2048;

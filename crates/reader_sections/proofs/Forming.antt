@@ -1,0 +1,91 @@
+-- What the forms of a message do with a word that the code tells by its code, by its number among the keywords or by its place in a table.
+-- Assumes nothing.
+use mathlib.Core.Bool.{true, false}
+use mathlib.Core.List.{List, [], map}
+use mathlib.Core.Path.{_≡_, refl, ap, sym, _∙_, subst}
+use Prim.Native.Nat.{ℕ, _+_, _-_, _≤_, _<_}
+use native.Mathlib.Omega.{arith}
+use lib.Dec.{eqb}
+use lib.ListN.{length}
+use borrow.Author.Tests.{lt-ltb, le-ltb, le-leb, eq-eqb, ne-eqb}
+use Rattle.lists.specs.Lists.{allOf, indexOf, part, same}
+use Rattle.lists.specs.Text.{bytes}
+use Rattle.lists.proofs.Choice.{by, clash, both-true}
+use Rattle.lists.proofs.Lists.{same-refl, same-is}
+use Rattle.figures.specs.Keywords.{short, codeOf, wordIn}
+use Rattle.figures.proofs.Keywords.{find-word}
+use Rattle.figures.proofs.Kept.{reads-spelled}
+use Rattle.keywords.specs.Keywords.{shortKeywords, longKeywords, keywords, keywordOf, goodKeyword, spellKeyword}
+use Rattle.keywords.proofs.KeywordLaws.{keyword-reads}
+use Rattle.grammar.specs.States.{ToArea}
+use Rattle.grammar.specs.States.State.{atForm, atStorm}
+use Rattle.grammar.specs.Steps.{stormWords, stormOf, goodStorm, stepWeather, step}
+use Rattle.reader_sections.specs.Going.{wordFrom}
+use Rattle.reader_sections.specs.Leading.{Leads, Stands, Before}
+use Rattle.reader_sections.specs.declared.steps.Step.{Step}
+use Rattle.reader_sections.proofs.Going.{some-word}
+use Rattle.reader_sections.proofs.KindLaws.{part-is, goes-word}
+use Rattle.reader_sections.proofs.Leads.{whether, nothing, standing, past-leads}
+
+-- A keyword, by its number.
+
+keyword-spelled : (n : ℕ) (w : List ℕ) → goodKeyword n ≡ true → n ≡ keywordOf w → same w (spellKeyword n) ≡ true
+keyword-spelled n w g e =
+    ap (same w) (ap spellKeyword e ∙ reads-spelled keyword-reads w (subst (λ (m : ℕ). goodKeyword m ≡ true) e g)) ∙ same-refl w
+
+keyword-told : (n : ℕ) (w : List ℕ) → goodKeyword n ≡ true → same w (spellKeyword n) ≡ eqb n (keywordOf w)
+keyword-told n w g =
+    by (same w (spellKeyword n))
+    (λ e. e ∙ sym (eq-eqb n (keywordOf w) (sym (ap keywordOf (same-is w (spellKeyword n) e) ∙ keyword-reads .forth n g))))
+    (λ f. f ∙ sym (ne-eqb n (keywordOf w) (λ z. clash (same w (spellKeyword n)) (keyword-spelled n w g z) f)))
+
+pub eruption-told : (w : List ℕ) → same w (bytes "ERUPTION") ≡ eqb 42 (keywordOf w)
+unfolding keywords shortKeywords longKeywords
+eruption-told w = keyword-told 42 w refl
+
+pub disregard-told : (w : List ℕ) → same w (bytes "DISREGARD") ≡ eqb 43 (keywordOf w)
+unfolding keywords shortKeywords longKeywords
+disregard-told w = keyword-told 43 w refl
+
+-- The storms' first words, by the place of a word's code among theirs.
+
+storms-short : allOf short stormWords ≡ true
+unfolding stormWords allOf
+storms-short = refl
+
+storms-count : length stormWords ≡ 4
+unfolding stormWords
+storms-count = refl
+
+storm-none : goodStorm (stormOf []) ≡ false
+unfolding stormWords indexOf same
+storm-none = refl
+
+module _ {t : List ℕ} {from : Step} {code n : ℕ} {codes : List ℕ} (f : Stands t from) (e : code ≡ codeOf (part (from .place) (from .end) t))
+    (i : n ≡ indexOf (eqb code) codes) (p : codes ≡ map codeOf stormWords) where
+  storm-place : n ≡ wordIn stormWords (part (from .place) (from .end) t)
+  storm-place = rw (i, p, e) (find-word stormWords (part (from .place) (from .end) t) storms-short)
+
+  storm-number : n < 4 → stormOf (part (from .place) (from .end) t) ≡ n + 1
+  storm-number l =
+      rw (lt-ltb (wordIn stormWords (part (from .place) (from .end) t)) (length stormWords) (omega (arith, storm-place, storms-count))) (omega (arith, storm-place))
+
+  storm-good : n < 4 → goodStorm (stormOf (part (from .place) (from .end) t)) ≡ true
+  storm-good l = rw (storm-number l) (both-true (le-leb 1 (n + 1) (omega arith)) (le-leb (n + 1) (1 + length stormWords - 1) (omega (arith, storms-count))))
+
+  -- the word is a storm's
+  pub goes-storm : {to : Step} → n < 4 → Before t (from .end) to → (o : ToArea) → (from .number ≡ 0 → step (atForm o) (wordFrom t (from .place)) ≡ stepWeather o (wordFrom t (from .place)))
+      → Leads (atForm o) t from to (atStorm o (n + 1))
+  goes-storm l past o j = whether (from .number)
+      (λ z.
+      let word : part (from .place) (from .end) t ≡ wordFrom t (from .place) = part-is (f .going z) in
+      let good : goodStorm (stormOf (wordFrom t (from .place))) ≡ true = rw word at (storm-good l) in
+      past-leads f z (goes-word (standing f) (f .going z) (atForm o) (atStorm o (n + 1)) (some-word (λ (x : List ℕ). goodStorm (stormOf x)) (wordFrom t (from .place)) storm-none good)
+      (j z ∙ rw (good, ap stormOf (sym word) ∙ storm-number l))) past)
+      (λ z. clash _ (storm-good l) (ap (λ (u : List ℕ). goodStorm (stormOf u)) (nothing t _ _ (sym (f .stays z))) ∙ storm-none))
+
+  -- the word is none of theirs
+  pub no-storm : from .number ≡ 0 → 4 ≤ n → goodStorm (stormOf (wordFrom t (from .place))) ≡ false
+  no-storm z l =
+      ap (λ (u : List ℕ). goodStorm (stormOf u)) (sym (part-is (f .going z)))
+      ∙ rw (le-ltb (wordIn stormWords (part (from .place) (from .end) t)) (length stormWords) (omega (arith, storm-place, storms-count)))

@@ -1,0 +1,249 @@
+-- One word at a step, and one section after another: plain transitivity, for a refused step stays as it is.
+-- Assumes nothing.
+use mathlib.Core.Bool.{Bool, true, false, not}
+use mathlib.Core.List.{List, []}
+use mathlib.Core.Path.{_≡_, refl, ap, sym, _∙_}
+use Prim.Native.Nat.{ℕ, _-_, _≤_, _<_}
+use native.Mathlib.Omega.{arith}
+use lib.Dec.{eqb}
+use lib.ListN.{length}
+use borrow.Author.Tests.{eq-eqb, ne-eqb, eqb-true, eqb-false}
+use Rattle.lists.specs.Lists.{part, same}
+use Rattle.lists.proofs.Choice.{by, clash, pick-true, pick-false}
+use Rattle.figures.specs.Keywords.{codeOf}
+use Rattle.figures.proofs.Keywords.{same-code}
+use Rattle.headings.specs.Headings.{correctionOf, goodCorrection}
+use Rattle.keywords.specs.Keywords.{keywordOf}
+use Rattle.message.specs.declared.Record.{Record}
+use Rattle.grammar.specs.Runs.{runAt}
+use Rattle.grammar.specs.Runs.Ran.{refused}
+use Rattle.grammar.specs.States.{State}
+use Rattle.grammar.specs.States.Move.{goes}
+use Rattle.grammar.specs.States.State.{atEnd, atCorrection, atUnit}
+use Rattle.grammar.specs.Steps.{step}
+use Rattle.reader_sections.specs.Going.{Goes, Ends, wordFrom, WordAt}
+use Rattle.reader_sections.specs.Heads.{CorrectionSays}
+use Rattle.reader_sections.specs.Kinds.{FixedWord, EndAt}
+use Rattle.reader_sections.specs.Leading.{runOn, Leads, Finishes, Stands, Before, Judged, Takes, TakesFixed, TakesLong, MayTake, Closes}
+use Rattle.reader_sections.specs.declared.steps.Step.{Step}
+use Rattle.reader_sections.proofs.Going.{skip, word-again, some-word}
+use Rattle.reader_sections.proofs.KindLaws.{good-word, bad-word, part-is, goes-word, same-word}
+use Rattle.reader_sections.proofs.Tells.{Told, keyword-none, correction-told}
+
+module _ {s mid : State} {t : List ℕ} {from to : Step} (g : Leads s t from to mid) where
+  pub then : {next : State} {to′ : Step} → Leads mid t to to′ next → Leads s t from to′ next
+  then h = record { says = g .says ∙ h .says }
+
+  pub at-last : {r : Record} {to′ : Step} → Finishes mid t to to′ r → Finishes s t from to′ r
+  at-last h = record { says = g .says ∙ h .says }
+
+-- a step that goes on
+pub on-going : (s : State) (t : List ℕ) (p : Step) → p .number ≡ 0 → runOn s t p ≡ runAt s t (p .place)
+on-going s t p e = rw (eq-eqb (p .number) 0 e)
+
+on-refused : (s : State) (t : List ℕ) (p : Step) → (p .number ≡ 0 → ⊥) → runOn s t p ≡ refused (p .number) (p .place)
+on-refused s t p e = rw (ne-eqb (p .number) 0 e)
+
+-- from a step that goes on, as it was said of places
+pub from-going : {s next : State} {t : List ℕ} {from to : Step} → from .number ≡ 0 → Goes s t (from .place) (to .number) (to .place) next → Leads s t from to next
+from-going {s} {next} {t} {from} {to} e g = record { says = on-going s t from e ∙ g .says }
+
+-- a refused step, whatever the states
+pub stays : {s next : State} {t : List ℕ} {from to : Step} → (from .number ≡ 0 → ⊥) → to .number ≡ from .number → to .place ≡ from .place → Leads s t from to next
+stays {s} {next} {t} {from} {to} e n p = record {
+  says = on-refused s t from e ∙ (ap (λ (m : ℕ). refused m (from .place)) (sym n) ∙ (ap (refused (to .number)) (sym p) ∙ sym (on-refused next t to (λ z. e (sym n ∙ z)))));
+}
+
+-- a step that is refused, whatever would have come
+pub over : {s mid next : State} {t : List ℕ} {from to : Step} → (to .number ≡ 0 → ⊥) → Leads s t from to mid → Leads s t from to next
+over {mid = mid} {next} {t} {to = to} z g = record { says = g .says ∙ (on-refused mid t to z ∙ sym (on-refused next t to z)) }
+
+-- going on or refused
+pub whether : {A : Type 0} (n : ℕ) → (n ≡ 0 → A) → ((n ≡ 0 → ⊥) → A) → A
+whether n f g = by (eqb n 0) (λ e. f (eqb-true n 0 e)) (λ e. g (eqb-false n 0 e))
+
+pub nothing : (t : List ℕ) (a e : ℕ) → a ≡ e → part a e t ≡ []
+nothing t a e p = let z : e - a ≡ 0 = omega arith in rw z
+
+-- a step stands within the text
+pub standing : {t : List ℕ} {p : Step} → Stands t p → p .place ≤ length t
+standing f = omega (arith, f .ordered, f .within)
+
+-- the run from a place on is that at the step before the next word
+pub before-run : {t : List ℕ} {at : ℕ} {to : Step} (s : State) → at ≤ length t → Before t at to → runAt s t at ≡ runOn s t to
+before-run {t} {at} {to} s h p = skip s t at h ∙ (ap (runAt s t) (sym (p .placed)) ∙ sym (on-going s t to (p .going)))
+
+-- from the beginning of a text
+pub as-ends : {s : State} {t : List ℕ} {at : ℕ} {from to : Step} {r : Record} → at ≤ length t → Before t at from → Finishes s t from to r → Ends s t at (to .number) (to .place) r
+as-ends {s} h p g = record { says = before-run s h p ∙ g .says }
+
+-- past the word at a step
+pub past-leads : {s next : State} {t : List ℕ} {from to : Step} → Stands t from → from .number ≡ 0 → Goes s t (from .place) 0 (from .end) next → Before t (from .end) to
+    → Leads s t from to next
+past-leads {s} {next} {t} {from} f z g p = record { says = on-going s t from z ∙ (g .says ∙ before-run next (f .within) p) }
+
+pub before-is : {t : List ℕ} {at start end : ℕ} → at ≤ length t → WordAt t at start end → Before t at (record { number = 0; place = start; end = end })
+before-is h w = record {
+  going = refl;
+  placed = w .starts;
+  stands = record { ordered = w .ordered; within = w .within; going = λ z. word-again h w; stays = λ z. absurd (z refl) };
+}
+
+-- what `judged` does
+pub judged-good-word : {t : List ℕ} {from to : Step} {g : Bool} {refusal : ℕ} → g ≡ true → Before t (from .end) to → Judged t from g refusal to
+judged-good-word {g = g} y p = record { taken = λ q. p; numbered = λ q. clash g y q; placed = λ q. clash g y q; stands = p .stands }
+
+pub judged-stays : {t : List ℕ} {from : Step} {g : Bool} {refusal : ℕ} → Stands t from → g ≡ false → (from .number ≡ 0 → ⊥) → Judged t from g refusal from
+judged-stays {from = from} {g} f y z = record { taken = λ q. clash g q y; numbered = λ q. sym (pick-false _ _ (ne-eqb (from .number) 0 z)); placed = λ q. refl; stands = f }
+
+pub judged-bad : {t : List ℕ} {from : Step} {g : Bool} {refusal : ℕ} → Stands t from → g ≡ false → 0 < refusal → from .number ≡ 0
+    → Judged t from g refusal (record { number = refusal; place = from .place; end = from .place })
+judged-bad {from = from} {g} f y some z = record {
+  taken = λ q. clash g q y;
+  numbered = λ q. sym (pick-true _ _ (eq-eqb (from .number) 0 z));
+  placed = λ q. refl;
+  stands = record { ordered = omega arith; within = standing f; going = λ q. absurd (omega arith); stays = λ q. refl };
+}
+
+-- the next word, judged
+module _ {t : List ℕ} {from to : Step} {g : Bool} {refusal : ℕ} (f : Stands t from) (j : Judged t from g refusal to) where
+  denied : from .number ≡ 0 → g ≡ false → to .number ≡ refusal
+  denied z y = j .numbered y ∙ pick-true _ _ (eq-eqb (from .number) 0 z)
+
+  stuck : (from .number ≡ 0 → ⊥) → g ≡ false → to .number ≡ from .number
+  stuck z y = j .numbered y ∙ pick-false _ _ (ne-eqb (from .number) 0 z)
+
+  pub judged-leads : {s next : State} → ((from .number ≡ 0 → ⊥) → g ≡ false) → (from .number ≡ 0 → g ≡ true → Goes s t (from .place) 0 (from .end) next)
+      → (from .number ≡ 0 → g ≡ false → Goes s t (from .place) refusal (from .place) next) → Leads s t from to next
+  judged-leads never good bad =
+      whether (from .number)
+      (λ z. by g (λ y. past-leads f z (good z y) (j .taken y)) (λ y. from-going z (rw (denied z y, j .placed y) (bad z y))))
+      (λ z. stays z (stuck z (never z)) (j .placed (never z)))
+
+  -- where the step goes on, the word was good
+  pub judged-good : ((from .number ≡ 0 → ⊥) → g ≡ false) → (refusal ≡ 0 → ⊥) → to .number ≡ 0 → g ≡ true
+  judged-good never least n =
+      by g (λ y. y)
+      (λ y. whether (from .number) (λ z. absurd (least (sym (denied z y) ∙ n))) (λ z. absurd (z (sym (stuck z y) ∙ n))))
+
+  -- where the step goes on, so did the one before
+  pub judged-went : ((from .number ≡ 0 → ⊥) → g ≡ false) → to .number ≡ 0 → from .number ≡ 0
+  judged-went never y = whether (from .number) (λ z. z) (λ z. sym (stuck z (never z)) ∙ y)
+
+module _ {t : List ℕ} {from to : Step} {g : Bool} {refusal : ℕ} (f : Stands t from) (j : Judged t from g refusal to) where
+  module _ {A : Type 0} {read : List ℕ → A} {good : A → Bool} {v : A} (none : good (read []) ≡ false)
+      (e : v ≡ read (part (from .place) (from .end) t)) (b : g ≡ good v) where
+    pub takes : Takes read good refusal t from to v
+    takes = record {
+      says = λ s next k n. judged-leads f j
+          (λ z. let same-place : from .place ≡ from .end = sym (f .stays z) in b ∙ (ap good (e ∙ ap read (nothing t _ _ same-place)) ∙ none))
+          (λ z y. good-word (standing f) (f .going z) read good e s next (k z) none (sym b ∙ y))
+          (λ z y. bad-word (standing f) (f .going z) read good e s next (k z) n (sym b ∙ y));
+      stands = j .stands;
+    }
+
+-- … by the field that tells its kind
+pub told-good : {A : Type 0} {read : List ℕ → A} {good : A → Bool} {field : A → ℕ} {none : ℕ} → Told read good field none → (w : List ℕ) (v : A) → v ≡ read w
+    → not (eqb (field v) none) ≡ good v
+told-good {field = field} {none} k w v e =
+    by (eqb (field v) none) (λ y. rw y (sym (k .bad w v e (eqb-true _ _ y)))) (λ y. rw y (sym (k .fine w v e (eqb-false _ _ y))))
+
+pub told : {A : Type 0} {read : List ℕ → A} {good : A → Bool} {field : A → ℕ} {none : ℕ} {t : List ℕ} {from to : Step} {refusal : ℕ} {v : A}
+    → Told read good field none → Stands t from → v ≡ read (part (from .place) (from .end) t)
+    → Judged t from (not (eqb (field v) none)) refusal to → Takes read good refusal t from to v
+told k f e j = takes f j (k .end) e (told-good k _ _ e)
+
+-- a fixed word, by its code
+module _ {t : List ℕ} {from : Step} {c : ℕ} (f : Stands t from) (e : c ≡ codeOf (part (from .place) (from .end) t)) where
+  pub coded : (k : List ℕ) (m : ℕ) → FixedWord k m → eqb c m ≡ same (part (from .place) (from .end) t) k
+  coded k m x = rw (e, sym (x .has)) (same-code (part (from .place) (from .end) t) k (x .is-short))
+
+  -- the code of an empty word is that of no fixed word
+  code-never : {k : List ℕ} {m : ℕ} → FixedWord k m → (from .number ≡ 0 → ⊥) → eqb c m ≡ false
+  code-never {k} {m} x z =
+      let same-place : from .place ≡ from .end = sym (f .stays z) in
+      coded k m x ∙ (ap (λ (u : List ℕ). same u k) (nothing t _ _ same-place) ∙ x .some)
+
+  pub takes-fixed : {to : Step} {m refusal : ℕ} → Judged t from (eqb c m) refusal to → TakesFixed m refusal t from to
+  takes-fixed {m = m} j = record {
+    says = λ k x s next i n. takes f j {A = List ℕ} {read = λ (u : List ℕ). u} {good = λ (u : List ℕ). same u k} (x .some) refl (coded k m x) .says s (λ u. next) i n;
+    went = λ x y. judged-went f j (code-never x) y;
+    stands = j .stands;
+  }
+
+  -- a word that has the code of a fixed one is not empty: nothing was refused before it
+  pub code-going : {k : List ℕ} {m : ℕ} → FixedWord k m → c ≡ m → from .number ≡ 0
+  code-going {m = m} x y = whether (from .number) (λ z. z) (λ z. clash (eqb c m) (eq-eqb c m y) (code-never x z))
+
+  pub code-yes : {k : List ℕ} {m : ℕ} → FixedWord k m → c ≡ m → same (wordFrom t (from .place)) k ≡ true
+  code-yes {k} {m} x y = ap (λ (u : List ℕ). same u k) (sym (part-is (f .going (code-going x y)))) ∙ (sym (coded k m x) ∙ eq-eqb c m y)
+
+  pub code-no : {k : List ℕ} {m : ℕ} → from .number ≡ 0 → FixedWord k m → (c ≡ m → ⊥) → same (wordFrom t (from .place)) k ≡ false
+  code-no {k} {m} z x y = ap (λ (u : List ℕ). same u k) (sym (part-is (f .going z))) ∙ (sym (coded k m x) ∙ ne-eqb c m y)
+
+  pub goes-code : {to : Step} {k : List ℕ} {m : ℕ} → FixedWord k m → c ≡ m → Before t (from .end) to → (s next : State) → step s (wordFrom t (from .place)) ≡ goes next
+      → Leads s t from to next
+  goes-code {k = k} x y p s next i =
+      let z : from .number ≡ 0 = code-going x y in
+      past-leads f z (goes-word (standing f) (f .going z) s next (some-word (λ (u : List ℕ). same u k) _ (x .some) (code-yes x y)) i) p
+
+  pub may-yes : {to : Step} (m : ℕ) → c ≡ m → Before t (from .end) to → MayTake m t from true to
+  may-yes m y p = record {
+    with = λ q k x s there i. goes-code x y p s there (i (code-yes x y));
+    without = λ q k x s otherwise i n. clash true refl q;
+    other = λ q k x z. clash true refl q;
+    stands = p .stands;
+  }
+
+  pub may-no : (m : ℕ) → (c ≡ m → ⊥) → MayTake m t from false from
+  may-no m y = record {
+    with = λ q k x s there i. clash false q refl;
+    without = λ q k x s otherwise i n. whether (from .number)
+        (λ z. from-going z (rw z (same-word (standing f) (f .going z) s otherwise n (i z (code-no z x y)))))
+        (λ z. stays z refl refl);
+    other = λ q k x z. code-no z x y;
+    stands = f;
+  }
+
+-- the `=`
+pub closes-stays : {from : Step} → (from .number ≡ 0 → ⊥) → Closes from from
+closes-stays {from} e = record { says = λ t r f. record { says = on-refused (atEnd r) t from e ∙ sym (pick-false _ _ (ne-eqb (from .number) 0 e)) } }
+
+pub closes-going : {from to : Step} → from .number ≡ 0 → ((t : List ℕ) → Stands t from → EndAt t (from .place) (to .number) (to .place)) → Closes from to
+closes-going {from} z e = record { says = λ t r f. record { says = on-going (atEnd r) t from z ∙ e t f .says r .says } }
+
+-- a long fixed word, by its number among the keywords: its value is the number wanted
+pub takes-keyword : {t : List ℕ} {from to : Step} {wanted refusal v : ℕ} → 1 ≤ wanted → Stands t from
+    → v ≡ keywordOf (part (from .place) (from .end) t) → Judged t from (eqb wanted v) refusal to → TakesLong wanted refusal t from to
+takes-keyword {wanted = wanted} some f e j = record {
+  says = λ s next k n. takes f j {read = keywordOf} {good = eqb wanted} (keyword-none wanted some) e refl .says s (λ v. next) k n;
+  stands = j .stands;
+}
+
+-- a correction, or the word is judged as the unit
+module _ {t : List ℕ} {from : Step} {v : ℕ} (f : Stands t from) (e : v ≡ correctionOf (part (from .place) (from .end) t)) where
+  pub correction-no : v ≡ 0 → CorrectionSays t from from v
+  unfolding step
+  correction-no y = record {
+    says = λ d c g. whether (from .number)
+        (λ z.
+        let k : WordAt t (from .place) (from .place) (from .end) = f .going z in
+        let other : goodCorrection (correctionOf (wordFrom t (from .place))) ≡ false = correction-told .bad (wordFrom t (from .place)) _ refl (ap correctionOf (sym (part-is k)) ∙ (sym e ∙ y)) in
+        from-going z (rw z (same-word (standing f) k (atCorrection d c g) (atUnit (record { designator = d; centre = c; sent = g; correction = v })) refl (rw (other, y)))))
+        (λ z. stays z refl refl);
+    stands = f;
+  }
+
+  pub correction-yes : {to : Step} → (v ≡ 0 → ⊥) → Before t (from .end) to → CorrectionSays t from to v
+  unfolding step correctionOf
+  correction-yes y p = record {
+    says = λ d c g. whether (from .number)
+        (λ z.
+        let k : WordAt t (from .place) (from .place) (from .end) = f .going z in
+        let is : v ≡ correctionOf (wordFrom t (from .place)) = e ∙ ap correctionOf (part-is k) in
+        let good : goodCorrection (correctionOf (wordFrom t (from .place))) ≡ true = correction-told .fine (wordFrom t (from .place)) _ refl (λ q. y (is ∙ q)) in
+        past-leads f z (goes-word (standing f) k (atCorrection d c g) (atUnit (record { designator = d; centre = c; sent = g; correction = v }))
+        (some-word (λ (x : List ℕ). goodCorrection (correctionOf x)) (wordFrom t (from .place)) (correction-told .end) good) (rw (good, is))) p)
+        (λ z. absurd (y (e ∙ ap correctionOf (nothing t _ _ (sym (f .stays z))))));
+    stands = p .stands;
+  }

@@ -1,0 +1,218 @@
+-- What the one field that the code looks at tells of a word's value, for each kind; and that the `=` is a word of no kind.
+-- Assumes nothing.
+use mathlib.Core.Bool.{Bool, true, false}
+use mathlib.Core.List.{List, []}
+use mathlib.Core.Path.{_≡_, refl}
+use Prim.Native.Nat.{ℕ, _≤_, _^_}
+use native.Mathlib.Omega.{arith}
+use lib.Dec.{ltb, eqb, lit<}
+use borrow.Author.Tests.{ne-eqb}
+use Rattle.lists.specs.Base.{worthAfter, places}
+use Rattle.lists.specs.Choice.{both, either}
+use Rattle.lists.specs.Lists.{allOf, indexOf, same}
+use Rattle.lists.proofs.Choice.{clash, both-false-left, both-false-right, either-false}
+use Rattle.words.specs.Bytes.{letter, between}
+use Rattle.figures.specs.Figures.{figuresOf}
+use Rattle.figures.specs.Letters.{lettersOf, goodLetters}
+use Rattle.figures.specs.Reads.{Reads}
+use Rattle.figures.proofs.LetterLaws.{letters-reads}
+use Rattle.coordinates.specs.Coordinates.{Axis, northSouth, eastWest, coordinateOf, goodCoordinate}
+use Rattle.coordinates.specs.declared.Coordinate.{Coordinate}
+use Rattle.coordinates.proofs.Axes.{latitude-reads, longitude-reads}
+use Rattle.groups.specs.Groups.{groupOf, goodGroup, periodOf, goodPeriod, timeOf, goodTime}
+use Rattle.groups.specs.declared.Group.{Group}
+use Rattle.groups.specs.declared.Period.{Period}
+use Rattle.groups.specs.declared.Time.{Time}
+use Rattle.groups.proofs.GroupLaws.{group-reads, period-reads, time-reads}
+use Rattle.headings.specs.Headings.{typeWords, designatorOf, goodDesignator, correctionOf, goodCorrection, officeOf}
+use Rattle.headings.specs.Sequences.{characters, sequenceOf, goodSequence}
+use Rattle.headings.specs.declared.Designator.{Designator}
+use Rattle.headings.specs.declared.Sequence.{Sequence}
+use Rattle.headings.proofs.HeadingLaws.{designator-reads, correction-reads, office-reads}
+use Rattle.headings.proofs.SequenceLaws.{sequence-reads}
+use Rattle.keywords.specs.Keywords.{shortKeywords, longKeywords, keywords, keywordOf}
+use Rattle.message.specs.declared.FirstLine.{FirstLine}
+use Rattle.motions.specs.Motions.{compassWords, compassOf, goodCompass, intensityWords, intensityOf, goodIntensity}
+use Rattle.motions.specs.Speeds.{unitWords, speedOf, goodSpeed}
+use Rattle.motions.specs.declared.Speed.{Speed}
+use Rattle.motions.proofs.MotionLaws.{compass-reads, speed-reads, intensity-reads}
+use Rattle.names.specs.Names.{closingWords, closingOf, goodClosing}
+use Rattle.names.proofs.NameLaws.{closing-reads}
+use Rattle.grammar.specs.Steps.{cancels}
+use Rattle.reader_sections.specs.Endings.{forecastTime}
+use Rattle.reader_sections.proofs.KindLaws.{field-yes, field-no}
+
+-- a kind that a field tells: a word's value is good exactly where the field is not the number of none, and the `=` is no word of the kind
+pub record Told {A : Type 0} (read : List ℕ → A) (good : A → Bool) (field : A → ℕ) (none : ℕ) : Type 0 where
+  pub bad : (w : List ℕ) (v : A) → v ≡ read w → field v ≡ none → good v ≡ false
+  pub fine : (w : List ℕ) (v : A) → v ≡ read w → (field v ≡ none → ⊥) → good v ≡ true
+  pub end : good (read []) ≡ false
+
+told-by : {A : Type 0} {read : List ℕ → A} {spell : A → List ℕ} {good : A → Bool} {none : A} → Reads read spell good none → (field : A → ℕ)
+    → ((v : A) → good v ≡ true → field v ≡ field none → ⊥) → good (read []) ≡ false → Told read good field (field none)
+told-by r field tells none = record { bad = field-no r field tells; fine = field-yes r field tells; end = none }
+
+-- four letters, and four letters and a hyphen
+letters-some : (n : ℕ) → goodLetters 4 n ≡ true → n ≡ 0 → ⊥
+unfolding goodLetters places allOf
+letters-some n g z = clash (goodLetters 4 n) g (rw z)
+
+letters-none : goodLetters 4 (lettersOf 4 []) ≡ false
+unfolding goodLetters lettersOf places allOf
+letters-none = refl
+
+office-none : goodLetters 4 (officeOf []) ≡ false
+unfolding goodLetters officeOf places allOf
+office-none = refl
+
+pub letters-told : Told (lettersOf 4) (goodLetters 4) (λ (n : ℕ). n) 0
+letters-told = told-by (letters-reads 4 (lit< tt) (lit< tt)) (λ (n : ℕ). n) letters-some letters-none
+
+pub office-told : Told officeOf (goodLetters 4) (λ (n : ℕ). n) 0
+office-told = told-by office-reads (λ (n : ℕ). n) letters-some office-none
+
+designator-some : (d : Designator) → goodDesignator d ≡ true → d .kind ≡ 0 → ⊥
+unfolding goodDesignator typeWords
+designator-some d g z = clash (goodDesignator d) g (rw z)
+
+designator-none : goodDesignator (designatorOf []) ≡ false
+unfolding goodDesignator designatorOf typeWords
+designator-none = refl
+
+pub designator-told : Told designatorOf goodDesignator (λ (d : Designator). d .kind) 0
+designator-told = told-by designator-reads (λ (d : Designator). d .kind) designator-some designator-none
+
+correction-some : (c : ℕ) → goodCorrection c ≡ true → c ≡ 0 → ⊥
+unfolding goodCorrection
+correction-some c g z = clash (goodCorrection c) g (rw z)
+
+correction-none : goodCorrection (correctionOf []) ≡ false
+unfolding goodCorrection correctionOf
+correction-none = refl
+
+pub correction-told : Told correctionOf goodCorrection (λ (c : ℕ). c) 0
+correction-told = told-by correction-reads (λ (c : ℕ). c) correction-some correction-none
+
+sequence-some : (s : Sequence) → goodSequence s ≡ true → s .digits ≡ 0 → ⊥
+unfolding goodSequence
+sequence-some s g z =
+    let few : characters s ≡ false = either-false (both-false-right (eqb (s .letter) 0) (rw z)) (both-false-right (letter (s .letter)) (rw z)) in
+    clash (goodSequence s) g (both-false-left (both (ltb 0 (s .number)) (ltb (s .number) (10 ^ s .digits))) few)
+
+sequence-none : goodSequence (sequenceOf []) ≡ false
+unfolding goodSequence sequenceOf
+sequence-none = refl
+
+pub sequence-told : Told sequenceOf goodSequence (λ (s : Sequence). s .digits) 0
+sequence-told = told-by sequence-reads (λ (s : Sequence). s .digits) sequence-some sequence-none
+
+group-some : (g : Group) → goodGroup g ≡ true → g .day ≡ 0 → ⊥
+unfolding goodGroup
+group-some g y z = clash (goodGroup g) y (rw z)
+
+group-none : goodGroup (groupOf []) ≡ false
+unfolding goodGroup groupOf
+group-none = refl
+
+pub group-told : Told groupOf goodGroup (λ (g : Group). g .day) 0
+group-told = told-by group-reads (λ (g : Group). g .day) group-some group-none
+
+period-some : (p : Period) → goodPeriod p ≡ true → p .from .day ≡ 0 → ⊥
+unfolding goodPeriod goodGroup
+period-some p g z = clash (goodPeriod p) g (rw z)
+
+pub period-none : goodPeriod (periodOf []) ≡ false
+unfolding goodPeriod goodGroup periodOf
+period-none = refl
+
+pub period-told : Told periodOf goodPeriod (λ (p : Period). p .from .day) 0
+period-told = told-by period-reads (λ (p : Period). p .from .day) period-some period-none
+
+-- no clock shows hour 24
+time-some : (u : Time) → goodTime u ≡ true → u .hour ≡ 24 → ⊥
+unfolding goodTime
+time-some u g z = clash (goodTime u) g (rw z)
+
+pub time-none : goodTime (timeOf []) ≡ false
+unfolding goodTime timeOf
+time-none = refl
+
+pub time-told : Told timeOf goodTime (λ (u : Time). u .hour) 24
+time-told = told-by time-reads (λ (u : Time). u .hour) time-some time-none
+
+closing-some : (n : ℕ) → goodClosing n ≡ true → n ≡ 0 → ⊥
+unfolding closingWords
+closing-some n g z = clash (goodClosing n) g (rw z)
+
+closing-none : goodClosing (closingOf []) ≡ false
+unfolding closingWords indexOf same
+closing-none = refl
+
+pub closing-told : Told closingOf goodClosing (λ (n : ℕ). n) 0
+closing-told = told-by closing-reads (λ (n : ℕ). n) closing-some closing-none
+
+-- neither letter of an axis is 0
+coordinate-some : (a : Axis) → either (eqb 0 (a .plus)) (eqb 0 (a .minus)) ≡ false → (c : Coordinate) → goodCoordinate a c ≡ true → c .letter ≡ 0 → ⊥
+unfolding goodCoordinate
+coordinate-some a other c g z = clash (goodCoordinate a c) g (rw (z, other))
+
+latitude-none : goodCoordinate northSouth (coordinateOf northSouth []) ≡ false
+unfolding goodCoordinate coordinateOf
+latitude-none = refl
+
+pub latitude-told : Told (coordinateOf northSouth) (goodCoordinate northSouth) (λ (c : Coordinate). c .letter) 0
+latitude-told = told-by latitude-reads (λ (c : Coordinate). c .letter) (coordinate-some northSouth refl) latitude-none
+
+longitude-none : goodCoordinate eastWest (coordinateOf eastWest []) ≡ false
+unfolding goodCoordinate coordinateOf
+longitude-none = refl
+
+pub longitude-told : Told (coordinateOf eastWest) (goodCoordinate eastWest) (λ (c : Coordinate). c .letter) 0
+longitude-told = told-by longitude-reads (λ (c : Coordinate). c .letter) (coordinate-some eastWest refl) longitude-none
+
+-- the sixteen points are 0 to 15
+compass-some : (n : ℕ) → goodCompass n ≡ true → n ≡ 16 → ⊥
+unfolding compassWords
+compass-some n g z = clash (goodCompass n) g (rw z)
+
+compass-none : goodCompass (compassOf []) ≡ false
+unfolding compassWords indexOf same
+compass-none = refl
+
+pub compass-told : Told compassOf goodCompass (λ (n : ℕ). n) 16
+compass-told = told-by compass-reads (λ (n : ℕ). n) compass-some compass-none
+
+speed-some : (s : Speed) → goodSpeed s ≡ true → s .unit ≡ 0 → ⊥
+unfolding goodSpeed unitWords
+speed-some s g z = clash (goodSpeed s) g (both-false-right (between 1 99 (s .value)) (rw z))
+
+speed-none : goodSpeed (speedOf []) ≡ false
+unfolding goodSpeed speedOf unitWords indexOf same figuresOf allOf worthAfter
+speed-none = refl
+
+pub speed-told : Told speedOf goodSpeed (λ (s : Speed). s .unit) 0
+speed-told = told-by speed-reads (λ (s : Speed). s .unit) speed-some speed-none
+
+intensity-some : (n : ℕ) → goodIntensity n ≡ true → n ≡ 0 → ⊥
+unfolding intensityWords
+intensity-some n g z = clash (goodIntensity n) g (rw z)
+
+intensity-none : goodIntensity (intensityOf []) ≡ false
+unfolding intensityWords indexOf same
+intensity-none = refl
+
+pub intensity-told : Told intensityOf goodIntensity (λ (n : ℕ). n) 0
+intensity-told = told-by intensity-reads (λ (n : ℕ). n) intensity-some intensity-none
+
+-- Readers whose test is not of the word alone: a keyword that is wanted, a period that cancels, the time of a forecast.
+
+pub keyword-none : (wanted : ℕ) → 1 ≤ wanted → eqb wanted (keywordOf []) ≡ false
+unfolding shortKeywords longKeywords keywords indexOf same
+keyword-none wanted h = ne-eqb wanted 0 (λ z. omega arith)
+
+pub cancelled-none : (l : FirstLine) (s : Sequence) → cancels l s (periodOf []) ≡ false
+unfolding cancels
+cancelled-none l s = both-false-left _ period-none
+
+pub forecast-none : (end : Time) → forecastTime end (timeOf []) ≡ false
+forecast-none end = both-false-left _ time-none

@@ -1,0 +1,24 @@
+-- `may_follow` meets its contract: with no point so far any latitude follows, else count and first point decide as the list does. Assumes nothing.
+use borrow.Author.Needs.{needs}
+use Rattle.reader_sections.proofs.OutlineLaws.{first-follows, next-follows}
+use Rattle.reader_sections.proofs.outline.may_follow.Statement.{statement}
+use Rattle.reader_sections.proofs.outline.may_follow.Tie as tie
+
+returns : tie.Need-returns
+returns c = first-follows (c .if1 .taken) _
+
+add-either : tie.Need-add-either
+add-either c = search needs
+
+same-latitude-requires : tie.Need-same-latitude-requires
+same-latitude-requires c κs = search needs
+
+either-requires : tie.Need-either-requires
+either-requires c κs = search needs
+
+returns-2 : tie.Need-returns-2
+returns-2 c = rw (c .either .ensures, c .before .same-latitude .ensures) (next-follows (c .before .before .before .if1 .left) _)
+
+pub may-follow-spec : {M : Type 1} → statement M
+may-follow-spec =
+    tie.close (tie.spec returns add-either same-latitude-requires either-requires returns-2)

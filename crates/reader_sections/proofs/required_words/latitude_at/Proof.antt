@@ -1,0 +1,35 @@
+-- `latitude_at` meets its contract. Assumes nothing.
+use borrow.Author.Needs.{needs}
+use Rattle.reader_sections.proofs.Leads.{told}
+use Rattle.reader_sections.proofs.Tells.{latitude-told}
+use Rattle.reader_sections.proofs.required_words.latitude_at.Statement.{statement}
+use Rattle.reader_sections.proofs.required_words.latitude_at.Tie as tie
+
+sub-latitude : tie.Need-sub-latitude
+sub-latitude c = search needs
+
+part-latitude-start : tie.Need-part-latitude-start
+part-latitude-start c = search needs
+
+part-latitude-end : tie.Need-part-latitude-end
+part-latitude-end c = search needs
+
+latitude-requires : tie.Need-latitude-requires
+latitude-requires c κs = search needs
+
+judged-requires : tie.Need-judged-requires
+judged-requires c κs = search needs
+
+returns : tie.Need-returns
+returns c = told latitude-told (c .before .before .before .before .before .pre .0) (c .before .before .latitude .ensures) (c .judged .ensures)
+
+pub latitude-at-spec : {M : Type 1} → statement M
+latitude-at-spec =
+    tie.close
+    (tie.spec
+    sub-latitude
+    part-latitude-start
+    part-latitude-end
+    latitude-requires
+    judged-requires
+    returns)

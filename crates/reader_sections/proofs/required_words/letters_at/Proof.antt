@@ -1,0 +1,35 @@
+-- `letters_at` meets its contract. Assumes nothing.
+use borrow.Author.Needs.{needs}
+use Rattle.reader_sections.proofs.Leads.{told}
+use Rattle.reader_sections.proofs.Tells.{letters-told}
+use Rattle.reader_sections.proofs.required_words.letters_at.Statement.{statement}
+use Rattle.reader_sections.proofs.required_words.letters_at.Tie as tie
+
+sub-letters : tie.Need-sub-letters
+sub-letters c = search needs
+
+part-letters-start : tie.Need-part-letters-start
+part-letters-start c = search needs
+
+part-letters-end : tie.Need-part-letters-end
+part-letters-end c = search needs
+
+letters-requires : tie.Need-letters-requires
+letters-requires c κs = search needs
+
+judged-requires : tie.Need-judged-requires
+judged-requires c κs = search needs
+
+returns : tie.Need-returns
+returns c = told letters-told (c .before .before .before .before .pre .0) (c .before .letters .ensures) (c .judged .ensures)
+
+pub letters-at-spec : {M : Type 1} → statement M
+letters-at-spec =
+    tie.close
+    (tie.spec
+    sub-letters
+    part-letters-start
+    part-letters-end
+    letters-requires
+    judged-requires
+    returns)

@@ -1,0 +1,20 @@
+-- `perhaps_at` meets its contract. Assumes nothing.
+use borrow.Author.Needs.{needs}
+use Rattle.reader_sections.proofs.Leads.{may-yes, may-no}
+use Rattle.reader_sections.proofs.steps.perhaps_at.Statement.{statement}
+use Rattle.reader_sections.proofs.steps.perhaps_at.Tie as tie
+
+code-of-requires : tie.Need-code-of-requires
+code-of-requires c κs = search needs
+
+step-at-requires : tie.Need-step-at-requires
+step-at-requires c κs = search needs
+
+returns : tie.Need-returns
+returns c = may-yes (search needs) (c .before .before .code-of .ensures) _ (c .before .if1 .taken) (c .step-at .ensures)
+
+returns-2 : tie.Need-returns-2
+returns-2 c = may-no (search needs) (c .before .code-of .ensures) _ (c .if1 .left)
+
+pub perhaps-at-spec : {M : Type 1} → statement M
+perhaps-at-spec = tie.close (tie.spec code-of-requires step-at-requires returns returns-2)

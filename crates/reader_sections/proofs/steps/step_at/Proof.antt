@@ -1,0 +1,14 @@
+-- `step_at` meets its contract. Assumes nothing.
+use borrow.Author.Needs.{needs}
+use Rattle.reader_sections.proofs.Leads.{before-is}
+use Rattle.reader_sections.proofs.steps.step_at.Statement.{statement}
+use Rattle.reader_sections.proofs.steps.step_at.Tie as tie
+
+span-at-requires : tie.Need-span-at-requires
+span-at-requires c κs = search needs
+
+returns : tie.Need-returns
+returns c = before-is (search needs) (c .span-at .ensures)
+
+pub step-at-spec : {M : Type 1} → statement M
+step-at-spec = tie.close (tie.spec span-at-requires returns)

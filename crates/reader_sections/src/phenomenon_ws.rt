@@ -1,0 +1,126 @@
+// Phenomenon of a WS: its number, in the paper's order.
+ghost use Prim.Native.Nat.{_≤_};
+ghost use Rattle.grammar.specs.States.State.{atStorm, atSevere, atHeavy, atRadioactive};
+ghost use Rattle.reader_sections.specs.Phenomena.{WeatherFrom, WeatherSays};
+ghost use Rattle.reader_sections.specs.Leading.{Stands};
+use crate::codes;
+use crate::steps::Step;
+use crate::steps::code_of;
+use crate::steps::fixed_at;
+use crate::steps::judged;
+use crate::steps::perhaps_at;
+use crate::steps::step_at;
+use figures::find;
+
+pub(crate) struct WeatherRead {
+    pub step: Step,
+    pub phenomenon: u8,
+}
+
+// TS or TSGR, after the storm's first word.
+fn read_storm(text: &[u8], from: Step, storm: u8) -> WeatherRead
+    requires { ⌜ (Stands (now text) from) × ((1 ≤ storm) × (storm ≤ 4)) ⌝ }
+    ensures { λ r. ⌜ WeatherFrom (λ o. atStorm o storm) (now (text .entry)) from (r .step) (r .phenomenon) ⌝ }
+{
+    let code = code_of(text, from);
+    if code == codes::TS {
+        let step = step_at(text, from.end);
+        return WeatherRead {
+            step,
+            phenomenon: 2 * storm - 1,
+        };
+    }
+    let step = judged(text, from, code == codes::TSGR, 7);
+    WeatherRead {
+        step,
+        phenomenon: 2 * storm,
+    }
+}
+
+// TURB, ICE, ICE (FZRA) or MTW, after SEV.
+fn read_severe(text: &[u8], from: Step) -> WeatherRead
+    requires { ⌜ Stands (now text) from ⌝ }
+    ensures { λ r. ⌜ WeatherFrom atSevere (now (text .entry)) from (r .step) (r .phenomenon) ⌝ }
+{
+    let code = code_of(text, from);
+    if code == codes::TURB {
+        let step = step_at(text, from.end);
+        return WeatherRead {
+            step,
+            phenomenon: 9,
+        };
+    }
+    if code == codes::MTW {
+        let step = step_at(text, from.end);
+        return WeatherRead {
+            step,
+            phenomenon: 12,
+        };
+    }
+    let rain = perhaps_at(
+        text,
+        judged(text, from, code == codes::ICE, 7),
+        codes::FREEZING_RAIN,
+    );
+    let step = rain.step;
+    if rain.found {
+        return WeatherRead {
+            step,
+            phenomenon: 11,
+        };
+    }
+    WeatherRead {
+        step,
+        phenomenon: 10,
+    }
+}
+
+// DS or SS, after HVY.
+fn read_heavy(text: &[u8], from: Step) -> WeatherRead
+    requires { ⌜ Stands (now text) from ⌝ }
+    ensures { λ r. ⌜ WeatherFrom atHeavy (now (text .entry)) from (r .step) (r .phenomenon) ⌝ }
+{
+    let code = code_of(text, from);
+    if code == codes::DS {
+        let step = step_at(text, from.end);
+        return WeatherRead {
+            step,
+            phenomenon: 13,
+        };
+    }
+    let step = judged(text, from, code == codes::SS, 7);
+    WeatherRead {
+        step,
+        phenomenon: 14,
+    }
+}
+
+// CLD, after RDOACT.
+fn read_radioactive(text: &[u8], from: Step) -> WeatherRead
+    requires { ⌜ Stands (now text) from ⌝ }
+    ensures { λ r. ⌜ WeatherFrom atRadioactive (now (text .entry)) from (r .step) (r .phenomenon) ⌝ }
+{
+    let step = fixed_at(text, from, codes::CLD, 7);
+    WeatherRead {
+        step,
+        phenomenon: 15,
+    }
+}
+
+pub(crate) fn read_weather(text: &[u8], from: Step) -> WeatherRead
+    requires { ⌜ Stands (now text) from ⌝ }
+    ensures { λ r. ⌜ WeatherSays (now (text .entry)) from (r .step) (r .phenomenon) ⌝ }
+{
+    let code = code_of(text, from);
+    let storm = find(&codes::STORMS, code);
+    if storm < 4 {
+        return read_storm(text, step_at(text, from.end), (storm + 1) as u8);
+    }
+    if code == codes::SEV {
+        return read_severe(text, step_at(text, from.end));
+    }
+    if code == codes::HVY {
+        return read_heavy(text, step_at(text, from.end));
+    }
+    read_radioactive(text, judged(text, from, code == codes::RDOACT, 7))
+}

@@ -1,0 +1,52 @@
+-- A good record's parts for the sections that put them.
+-- Assumes nothing.
+use mathlib.Core.Bool.{true, false}
+use mathlib.Core.Path.{_≡_}
+use Prim.Native.Nat.{ℕ, _≤_}
+use native.Mathlib.Omega.{arith}
+use Rattle.lists.proofs.Choice.{both-left}
+use Rattle.words.specs.Bytes.{between}
+use Rattle.words.proofs.Ranges.{between-low, between-high}
+use Rattle.message.specs.Limits.{nameBytes}
+use Rattle.message.specs.Locations.{goodBound, goodExtent, noPoints}
+use Rattle.message.specs.Records.{goodForm, good}
+use Rattle.message.specs.declared.Bound.{Bound}
+use Rattle.message.specs.declared.Ending.{Ending}
+use Rattle.message.specs.declared.Ending.the-variants.{Forecast}
+use Rattle.message.specs.declared.Extent.{Extent}
+use Rattle.message.specs.declared.Form.{Form}
+use Rattle.message.specs.declared.Form.the-variants.{Test, Reported}
+use Rattle.message.specs.declared.Location.the-variants.{Bounded, Outline}
+use Rattle.message.specs.declared.Record.{Record}
+use Rattle.message.proofs.Goodness.{good-parts, area-parts, name-parts, outline-parts, forecast-parts}
+use Rattle.writer_sections.specs.Sections.{GoodReport, GoodEnding}
+
+-- by the form that was found
+form-of : (r : Record) (f : Form) → good r ≡ true → r .form ≡ f → goodForm (r .heading .designator .kind) (r .line) (r .report) f ≡ true
+form-of r f g e = rw e at (good-parts r g .form)
+
+pub test-number : (r : Record) (n : ℕ) → good r ≡ true → r .form ≡ Test n → (1 ≤ n) × (n ≤ 3)
+unfolding goodForm
+test-number r n g e =
+    let t : between 1 3 n ≡ true = both-left _ _ (form-of r (Test n) g e) in
+    (between-low 1 3 n t, between-high 1 3 n t)
+
+pub reported : (r : Record) → good r ≡ true → r .form ≡ Reported → GoodReport (r .report)
+unfolding goodForm
+reported r g e = record { kind = r .heading .designator .kind; holds = form-of r Reported g e }
+
+pub area-fits : (r : Record) → good r ≡ true → r .area .name .count ≤ 50
+area-fits r g = name-parts false nameBytes (r .area .name) (area-parts (r .area) (good-parts r g .area) .name) .fits
+
+pub forecast-good : (e : Ending) (f : Extent) (i : ℕ) → GoodEnding e f → e ≡ Forecast i → goodExtent f ≡ true
+forecast-good e f i g h = forecast-parts (g .kind) i f (rw h at (g .holds)) .forecast
+
+pub bounded : (x : Extent) (b : Bound) → goodExtent x ≡ true → x .location ≡ Bounded b → goodBound b ≡ true
+unfolding goodExtent
+bounded x b g e = both-left (goodBound b) (noPoints (x .points)) (rw e at g)
+
+pub outlined : (x : Extent) (n : ℕ) → goodExtent x ≡ true → x .location ≡ Outline n → (1 ≤ n) × (n ≤ 7)
+unfolding goodExtent
+outlined x n g e =
+    let parts = outline-parts n (x .points) (rw e at g) in
+    (omega (arith, parts .least), parts .most)

@@ -1,0 +1,167 @@
+-- What the sections of the writer put, as the words of the record: names, mountains, bounds, outlines, phenomena.
+-- Assumes nothing.
+use mathlib.Core.Bool.{Bool, true, false}
+use mathlib.Core.List.{List, [], _∷_, _++_, append-assoc, append-nil}
+use mathlib.Core.Path.{_≡_, refl, ap, sym, _∙_}
+use Prim.Native.Nat.{ℕ, zero, suc, _+_, _-_, _≤_, _<_}
+use native.Mathlib.Numerals.{sub-one}
+use native.Mathlib.Omega.{arith}
+use lib.Dec.{eqb}
+use lib.ListN.{length, getD, take}
+use lib.Seq.{take-suc}
+use borrow.Author.Tests.{eqb-true, ne-eqb}
+use Rattle.lists.specs.Choice.{pick, both}
+use Rattle.lists.specs.Lists.{part, same}
+use Rattle.lists.specs.Text.{bytes}
+use Rattle.lists.proofs.Choice.{by, clash, both-left, both-right, both-false-left, either-cases}
+use Rattle.lists.proofs.Lists.{same-is}
+use Rattle.words.proofs.Ranges.{between-low, between-high}
+use Rattle.coordinates.specs.Coordinates.{Axis, northSouth, eastWest}
+use Rattle.coordinates.specs.Points.{pointWords}
+use Rattle.coordinates.specs.declared.Point.{Point}
+use Rattle.names.specs.Names.{onto, pieces}
+use Rattle.names.proofs.NameLaws.{pieces-some}
+use Rattle.message.specs.Limits.{mountainLimit}
+use Rattle.message.specs.Locations.{goodSide, emptySide, goodBound, dashed, joined}
+use Rattle.message.specs.Names.{goodName, emptyName, unusedZero}
+use Rattle.message.specs.Reports.{phenomena, goodVolcano}
+use Rattle.message.specs.declared.Bound.{Bound}
+use Rattle.message.specs.declared.Name.{Name}
+use Rattle.message.specs.declared.Side.{Side}
+use Rattle.message.specs.declared.Volcano.{Volcano}
+use Rattle.message.proofs.Goodness.{name-parts, side-parts, bound-cases, phenomenon-cases}
+use Rattle.pens.specs.Pens.{pen, strokes, spaced, Words}
+use Rattle.pens.proofs.PenLaws.{and-then}
+use Rattle.writer_sections.specs.Sections.{GoodPhenomenon, GoodMount, namedWords, firstWord, secondWord}
+use Rattle.writer_sections.proofs.Tables.{stretched}
+
+-- Names.
+
+-- the byte in front of the first piece stands behind the space
+spaced-onto : (x : ℕ) (t : List ℕ) (ws : List (List ℕ)) → 0 < length ws → spaced ws ≡ 32 ∷ t → spaced (onto x ws) ≡ 32 ∷ x ∷ t
+unfolding spaced
+spaced-onto x t [] h e = absurd (omega arith)
+spaced-onto x t (w ∷ ws) h e = let rest : w ++ spaced ws ≡ t = cc in ap (λ (l : List ℕ). 32 ∷ x ∷ l) rest
+
+-- a text parted at its spaces is the text, its spaces again before the pieces
+spaced-pieces : (t : List ℕ) → spaced (pieces t) ≡ 32 ∷ t
+unfolding pieces spaced
+spaced-pieces [] = refl
+spaced-pieces (x ∷ t) =
+    by (eqb x 32)
+    (λ e. rw (e, spaced-pieces t) (rw (eqb-true x 32 e)))
+    (λ e. rw e (spaced-onto x t (pieces t) (pieces-some t) (spaced-pieces t)))
+
+pub name-put : {t : List ℕ} {at n : ℕ} {page p : List ℕ} → Words (t ∷ []) at page n p → Words (pieces t) at page n p
+unfolding spaced
+name-put {t} {at} {n} {page} f =
+    record { says = ap (λ (l : List ℕ). strokes l (pen at page)) (spaced-pieces t ∙ ap (λ (l : List ℕ). 32 ∷ l) (sym (append-nil t))) ∙ f .says }
+
+-- Mountains.
+
+pub no-mount : (n : Name) → GoodMount n → n .count ≡ 0 → emptyName n ≡ true
+no-mount n g e =
+    either-cases (emptyName n) (goodName true mountainLimit n) (g .holds) (λ t. t) (λ t. absurd (omega (arith, name-parts true mountainLimit n t .some)))
+
+pub a-mount : (n : Name) → (n .count ≡ 0 → ⊥) → emptyName n ≡ false
+unfolding emptyName
+a-mount n h = both-false-left (unusedZero n) (ne-eqb (n .count) 0 h)
+
+pub mount-fits : (n : Name) → GoodMount n → (n .count ≡ 0 → ⊥) → n .count ≤ 50
+mount-fits n g h =
+    either-cases (emptyName n) (goodName true mountainLimit n) (g .holds)
+    (λ t. clash (emptyName n) t (a-mount n h))
+    (λ t. omega (arith, name-parts true mountainLimit n t .fits))
+
+-- Phenomena.
+
+pub phenomenon-number : (n : ℕ) (v : Volcano) → GoodPhenomenon n v → (1 ≤ n) × (n ≤ 17)
+phenomenon-number n v g =
+    phenomenon-cases (g .kind) n v (g .holds)
+    (λ k b e. (between-low 1 15 n b, omega (arith, between-high 1 15 n b)))
+    (λ k c e. (omega arith, omega arith))
+    (λ k c e. (omega arith, omega arith))
+
+pub erupted : (n : ℕ) (v : Volcano) → GoodPhenomenon n v → n ≡ 17 → goodVolcano v ≡ true
+erupted n v g h =
+    phenomenon-cases (g .kind) n v (g .holds)
+    (λ k b e. absurd (omega (arith, between-high 1 15 n b)))
+    (λ k c e. absurd (omega arith))
+    (λ k c e. e)
+
+-- the words of two lists are the same
+abbrev sameWords : List (List ℕ) → List (List ℕ) → Bool
+sameWords [] [] = true
+sameWords [] (y ∷ ys) = false
+sameWords (x ∷ xs) [] = false
+sameWords (x ∷ xs) (y ∷ ys) = both (same x y) (sameWords xs ys)
+
+same-words-is : (xs ys : List (List ℕ)) → sameWords xs ys ≡ true → xs ≡ ys
+same-words-is [] [] t = refl
+same-words-is [] (y ∷ ys) t = clash false t refl
+same-words-is (x ∷ xs) [] t = clash false t refl
+same-words-is (x ∷ xs) (y ∷ ys) t =
+    let first : x ≡ y = same-is x y (both-left (same x y) (sameWords xs ys) t) in
+    let rest : xs ≡ ys = same-words-is xs ys (both-right (same x y) (sameWords xs ys) t) in
+    cc
+
+abbrev toldWords : ℕ → List (List ℕ)
+toldWords n = firstWord n ∷ secondWord n ∷ pick (eqb n 11) (bytes "(FZRA)" ∷ []) []
+
+-- a phenomenon has two words, and `SEV ICE (FZRA)` a third
+pub named-words : (n : ℕ) → 1 ≤ n → n ≤ 17 → namedWords n ≡ toldWords n
+unfolding phenomena same
+named-words n low high =
+    same-words-is (namedWords n) (toldWords n)
+    (stretched (λ (k : ℕ). sameWords (namedWords k) (toldWords k)) 1 17 n refl low (omega arith))
+
+-- Bounds.
+
+axis-letter : (a : Axis) (s : Side) → 0 < a .plus → 0 < a .minus → goodSide a s ≡ true → s .of ≡ 0 → ⊥
+axis-letter a s p m g e =
+    either-cases (eqb (s .of) (a .plus)) (eqb (s .of) (a .minus)) (side-parts a s g .letter)
+    (λ t. omega (arith, eqb-true (s .of) (a .plus) t))
+    (λ t. omega (arith, eqb-true (s .of) (a .minus) t))
+
+pub a-side : (s : Side) → (s .of ≡ 0 → ⊥) → emptySide s ≡ false
+unfolding emptySide
+a-side s h = both-false-left _ (ne-eqb (s .of) 0 h)
+
+pub no-latitude : (b : Bound) → goodBound b ≡ true → b .latitude .of ≡ 0 → emptySide (b .latitude) ≡ true
+no-latitude b g e =
+    bound-cases b g (λ t s. t)
+    (λ f s t. absurd (axis-letter northSouth (b .latitude) (omega arith) (omega arith) s e))
+    (λ f s t u. absurd (axis-letter northSouth (b .latitude) (omega arith) (omega arith) s e))
+
+pub no-longitude : (b : Bound) → goodBound b ≡ true → (b .latitude .of ≡ 0 → ⊥) → b .longitude .of ≡ 0 → emptySide (b .longitude) ≡ true
+no-longitude b g h e =
+    bound-cases b g (λ t s. clash (emptySide (b .latitude)) t (a-side (b .latitude) h)) (λ f s t. t)
+    (λ f s t u. absurd (axis-letter eastWest (b .longitude) (omega arith) (omega arith) u e))
+
+-- Outlines.
+
+dashed-append : (ps qs : List Point) → dashed (ps ++ qs) ≡ dashed ps ++ dashed qs
+unfolding dashed
+dashed-append [] qs = refl
+dashed-append (p ∷ ps) qs = rw (dashed-append ps qs, append-assoc (pointWords p) (dashed ps) (dashed qs))
+
+-- one more point, with the `-` before it
+pub point-more : (ps : List Point) (i : ℕ) (d : Point) {at n m o : ℕ} {page p q r : List ℕ} → 1 ≤ i → i < length ps → Words (dashed (part 1 i ps)) at page n p
+    → Words (bytes "-" ∷ []) n p m q → Words (pointWords (getD ps i d)) m q o r → Words (dashed (part 1 (i + 1) ps)) at page o r
+unfolding dashed
+point-more [] i d low high f g h = absurd (omega arith)
+point-more (first ∷ ps) zero d low high f g h = absurd (omega arith)
+point-more (first ∷ ps) (suc i) d {at} {n} {m} {o} {page} {p} {q} {r} low high f g h =
+    let one : suc i - 1 ≡ i = sub-one (suc i) in
+    let two : suc i + 1 - 1 ≡ suc i = omega arith in
+    let inside : i < length ps = omega arith in
+    let put : Words (dashed (take i ps) ++ dashed (getD ps i d ∷ [])) at page o r = and-then (rw one at f) (and-then g h) in
+    rw (two, take-suc ps i d inside, dashed-append (take i ps) (getD ps i d ∷ [])) put
+
+-- the first point, and the others with a `-` before each
+pub points-joined : (ps : List Point) (count : ℕ) (d : Point) {at n m : ℕ} {page p q : List ℕ} → 1 ≤ count → 0 < length ps
+    → Words (pointWords (getD ps 0 d)) at page n p → Words (dashed (part 1 count ps)) n p m q → Words (joined (take count ps)) at page m q
+unfolding joined
+points-joined [] count d low some f g = absurd (omega arith)
+points-joined (first ∷ ps) zero d low some f g = absurd (omega arith)
+points-joined (first ∷ ps) (suc count) d low some f g = rw (sub-one (suc count)) at (and-then f g)

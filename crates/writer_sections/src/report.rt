@@ -1,0 +1,28 @@
+// A report: phenomenon, observation, location, level, then the ending.
+ghost use Rattle.message.specs.Reports.{reportWords};
+ghost use Rattle.pens.specs.Pens.{Words};
+ghost use Rattle.writer_sections.specs.Sections.{GoodReport};
+use crate::ending::put_ending;
+use crate::level::put_level;
+use crate::location::put_extent;
+use crate::observation::put_observation;
+use crate::phenomenon::put_phenomenon;
+use groups::Time;
+use message::Report;
+
+pub(crate) fn put_report(out: &mut [u8], at: usize, end: Time, closing: u8, r: Report) -> usize
+    requires { ⌜ GoodReport r ⌝ }
+    ensures { λ n. ⌜ Words (reportWords end closing r) at (now (out .entry)) n (now (out .exit)) ⌝ }
+{
+    let volcano = r.volcano;
+    let observation = r.observation;
+    let extent = r.extent;
+    let level = r.level;
+    let ending = r.ending;
+    let forecast = r.forecast;
+    let a = put_phenomenon(out, at, r.phenomenon, volcano);
+    let b = put_observation(out, a, observation);
+    let c = put_extent(out, b, closing, extent);
+    let d = put_level(out, c, level);
+    put_ending(out, d, end, closing, ending, forecast)
+}
