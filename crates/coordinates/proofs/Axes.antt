@@ -18,9 +18,9 @@ use Rattle.lists.proofs.Lists.{all-append}
 use Rattle.words.specs.Bytes.{letter, plain}
 use Rattle.words.specs.Words.{plainWord}
 use Rattle.figures.specs.Figures.{twoOf, threeOf, inFigures}
-use Rattle.figures.specs.Reads.{Reads, kept}
+use Rattle.figures.specs.Reads.{Reads, ifGood}
 use Rattle.figures.proofs.FigureLaws.{two-forth, two-back, three-forth, three-back, length-inFigures}
-use Rattle.figures.proofs.Kept.{Back, kept-back}
+use Rattle.figures.proofs.ReadsLaws.{Back, if-good-back}
 use Rattle.figures.proofs.PlainLaws.{letter-plain, inFigures-plain, plain-cons}
 use Rattle.coordinates.specs.Coordinates.{Axis, northSouth, eastWest, coordinateOf, spellCoordinate, goodCoordinate, noCoordinate}
 use Rattle.coordinates.specs.declared.Coordinate.{Coordinate}
@@ -31,7 +31,7 @@ module _ (a : Axis) where
   -- The two forms: what a word of each is read as, and how a coordinate of each is spelled. The letter is x, and `ds` and `ms` are
   -- the figures of the degrees and of the minutes.
   module _ (x : ℕ) (ds : List ℕ) (long : length ds ≡ a .width) where
-    read-degrees : coordinateOf a (x ∷ ds) ≡ kept (goodCoordinate a) noCoordinate (record { letter = x; digits = a .width; degrees = threeOf ds; minutes = 0 })
+    read-degrees : coordinateOf a (x ∷ ds) ≡ ifGood (goodCoordinate a) noCoordinate (record { letter = x; digits = a .width; degrees = threeOf ds; minutes = 0 })
     unfolding coordinateOf
     read-degrees =
         let l : length (x ∷ ds) ≡ a .width + 1 = omega arith in
@@ -39,7 +39,7 @@ module _ (a : Axis) where
         rw (l, eq-eqb (a .width + 1) (a .width + 1) refl, p)
 
     read-minutes : (ms : List ℕ) → length ms ≡ 2
-        → coordinateOf a (x ∷ (ds ++ ms)) ≡ kept (goodCoordinate a) noCoordinate (record { letter = x; digits = a .width + 2; degrees = threeOf ds; minutes = twoOf ms })
+        → coordinateOf a (x ∷ (ds ++ ms)) ≡ ifGood (goodCoordinate a) noCoordinate (record { letter = x; digits = a .width + 2; degrees = threeOf ds; minutes = twoOf ms })
     unfolding coordinateOf
     read-minutes ms two =
         let l : length (x ∷ (ds ++ ms)) ≡ a .width + 3 = omega (arith, length-append ds ms) in
@@ -90,8 +90,8 @@ module _ (a : Axis) where
   abbrev Settled : List ℕ → Type 0
   Settled w = Back (spellCoordinate a) (goodCoordinate a) noCoordinate w (coordinateOf a w)
 
-  settled : (c : Coordinate) (w : List ℕ) → coordinateOf a w ≡ kept (goodCoordinate a) noCoordinate c → (goodCoordinate a c ≡ true → spellCoordinate a c ≡ w) → Settled w
-  settled c w e s = rw e (kept-back (spellCoordinate a) (goodCoordinate a) noCoordinate w c s)
+  settled : (c : Coordinate) (w : List ℕ) → coordinateOf a w ≡ ifGood (goodCoordinate a) noCoordinate c → (goodCoordinate a c ≡ true → spellCoordinate a c ≡ w) → Settled w
+  settled c w e s = rw e (if-good-back (spellCoordinate a) (goodCoordinate a) noCoordinate w c s)
 
   module _ (short : a .width ≤ 3) (room : a .greatest < 10 ^ a .width) where
     few : (n : ℕ) → n ≤ a .greatest → n < 1000

@@ -11,7 +11,7 @@ use lib.ListN.{length, getD}
 use Rattle.lists.specs.Choice.{pick, both, either}
 use Rattle.lists.specs.Lists.{part}
 use Rattle.figures.specs.Figures.{twoOf, threeOf, inFigures}
-use Rattle.figures.specs.Reads.{kept}
+use Rattle.figures.specs.Reads.{ifGood}
 use Rattle.coordinates.specs.declared.Coordinate.{Coordinate}
 
 -- how many digits the degrees have, the greatest degree, and the letters of the positive and of the negative side
@@ -60,8 +60,8 @@ inMinutes a w =
 -- the coordinate that a word is, or none
 unfoldable pub coordinateOf : Axis → List ℕ → Coordinate
 coordinateOf a w =
-    pick (eqb (length w) (a .width + 1)) (kept (goodCoordinate a) noCoordinate (inDegrees a w))
-    (pick (eqb (length w) (a .width + 3)) (kept (goodCoordinate a) noCoordinate (inMinutes a w)) noCoordinate)
+    pick (eqb (length w) (a .width + 1)) (ifGood (goodCoordinate a) noCoordinate (inDegrees a w))
+    (pick (eqb (length w) (a .width + 3)) (ifGood (goodCoordinate a) noCoordinate (inMinutes a w)) noCoordinate)
 
 -- the word of a coordinate
 unfoldable pub spellCoordinate : Axis → Coordinate → List ℕ

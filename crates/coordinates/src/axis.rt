@@ -4,6 +4,7 @@ ghost use Prim.Native.Nat.{_≤_};
 ghost use Rattle.lists.specs.Choice.{pick};
 ghost use Rattle.coordinates.specs.Coordinates.{coordinateOf, goodCoordinate, noCoordinate, written, counted};
 use crate::Coordinate;
+use crate::NO_COORDINATE;
 use figures::three;
 use figures::two;
 use lists::both;
@@ -35,31 +36,16 @@ pub(crate) fn good(c: Coordinate, width: u8, greatest: u16, plus: u8, minus: u8)
 fn keep(c: Coordinate, good: bool) -> Coordinate
     ensures { λ r. ⌜ r ≡ pick good c noCoordinate ⌝ }
 {
-    if good {
-        c
-    } else {
-        Coordinate {
-            letter: 0,
-            digits: 0,
-            degrees: 0,
-            minutes: 0,
-        }
-    }
+    if good { c } else { NO_COORDINATE }
 }
 
 pub(crate) fn coordinate(w: &[u8], width: u8, greatest: u16, plus: u8, minus: u8) -> Coordinate
     requires { ⌜ width ≤ 3 ⌝ }
     ensures { λ r. ⌜ r ≡ coordinateOf (record { width = width; greatest = greatest; plus = plus; minus = minus }) (now (w .entry)) ⌝ }
 {
-    let none = Coordinate {
-        letter: 0,
-        digits: 0,
-        degrees: 0,
-        minutes: 0,
-    };
     let past = width as usize + 1;
     if w.len() < past {
-        return none;
+        return NO_COORDINATE;
     }
     let degrees = three(&w[1..past]);
     let letter = w[0];
@@ -73,12 +59,13 @@ pub(crate) fn coordinate(w: &[u8], width: u8, greatest: u16, plus: u8, minus: u8
         return keep(c, good(c, width, greatest, plus, minus));
     }
     if w.len() != past + 2 {
-        return none;
+        return NO_COORDINATE;
     }
     let minutes = two(&w[past..]);
+    let digits = width + 2;
     let c = Coordinate {
         letter,
-        digits: width + 2,
+        digits,
         degrees,
         minutes,
     };

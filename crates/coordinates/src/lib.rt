@@ -7,7 +7,7 @@ use lists::either;
 
 mod axis;
 
-// Letter and digits as written: how many digits, and the degrees and minutes that they count. All zero is no coordinate.
+// Letter and digits as written: how many digits, and the degrees and minutes that they count.
 pub struct Coordinate {
     pub letter: u8,
     pub digits: u8,
@@ -15,35 +15,54 @@ pub struct Coordinate {
     pub minutes: u8,
 }
 
+pub const NO_COORDINATE: Coordinate = Coordinate {
+    letter: 0,
+    digits: 0,
+    degrees: 0,
+    minutes: 0,
+};
+
 pub struct Point {
     pub latitude: Coordinate,
     pub longitude: Coordinate,
 }
 
+pub const NO_POINT: Point = Point {
+    latitude: NO_COORDINATE,
+    longitude: NO_COORDINATE,
+};
+
+// The greatest degrees, and the minutes once around the earth.
+const MOST_LATITUDE: u16 = 90;
+
+const MOST_LONGITUDE: u16 = 180;
+
+const ROUND: u32 = 21600;
+
 // The latitude that a word is, or all zero.
 pub fn latitude(w: &[u8]) -> Coordinate
     ensures { λ r. ⌜ r ≡ coordinateOf northSouth (now (w .entry)) ⌝ }
 {
-    axis::coordinate(w, 2, 90, 78, 83)
+    axis::coordinate(w, 2, MOST_LATITUDE, b'N', b'S')
 }
 
 // The longitude that a word is, or all zero.
 pub fn longitude(w: &[u8]) -> Coordinate
     ensures { λ r. ⌜ r ≡ coordinateOf eastWest (now (w .entry)) ⌝ }
 {
-    axis::coordinate(w, 3, 180, 69, 87)
+    axis::coordinate(w, 3, MOST_LONGITUDE, b'E', b'W')
 }
 
 pub fn good_latitude(c: Coordinate) -> bool
     ensures { λ r. ⌜ r ≡ goodCoordinate northSouth c ⌝ }
 {
-    axis::good(c, 2, 90, 78, 83)
+    axis::good(c, 2, MOST_LATITUDE, b'N', b'S')
 }
 
 pub fn good_longitude(c: Coordinate) -> bool
     ensures { λ r. ⌜ r ≡ goodCoordinate eastWest c ⌝ }
 {
-    axis::good(c, 3, 180, 69, 87)
+    axis::good(c, 3, MOST_LONGITUDE, b'E', b'W')
 }
 
 pub fn empty_coordinate(c: Coordinate) -> bool
@@ -60,7 +79,7 @@ pub fn signed(c: Coordinate) -> i32
     ensures { λ r. ⌜ r ≡ signedOf c ⌝ }
 {
     let size = (c.degrees as u32 * 60 + c.minutes as u32) as i32;
-    if either(c.letter == 83, c.letter == 87) {
+    if either(c.letter == b'S', c.letter == b'W') {
         0 - size
     } else {
         size
@@ -92,7 +111,7 @@ pub fn same_point(p: Point, q: Point) -> bool
 {
     let north = apart_by(p.latitude, q.latitude);
     let east = apart_by(p.longitude, q.longitude);
-    both(north == 0, either(east == 0, east == 21600))
+    both(north == 0, either(east == 0, east == ROUND))
 }
 
 pub fn good_point(p: Point) -> bool

@@ -2,10 +2,6 @@
 -- Assumes nothing.
 use Rattle.lists.proofs.Choice.{determined}
 use Rattle.lists.specs.Determined.{Determines}
-use Rattle.figures.proofs.is_letter.Kinds as is-letter-kinds
-use Rattle.figures.proofs.is_letter.Reads as is-letter-reads
-use Rattle.figures.proofs.is_digit.Kinds as is-digit-kinds
-use Rattle.figures.proofs.is_digit.Reads as is-digit-reads
 use Rattle.figures.proofs.letters.Kinds as letters-kinds
 use Rattle.figures.proofs.letters.Reads as letters-reads
 use Rattle.figures.proofs.figures.Kinds as figures-kinds
@@ -18,12 +14,6 @@ use Rattle.figures.proofs.code.Kinds as code-kinds
 use Rattle.figures.proofs.code.Reads as code-reads
 use Rattle.figures.proofs.find.Kinds as find-kinds
 use Rattle.figures.proofs.find.Reads as find-reads
-
-pub is-letter-determined : Determines 0 is-letter-kinds.ps is-letter-kinds.r is-letter-reads.Learnt
-is-letter-determined κs a r s x y p q = determined p q
-
-pub is-digit-determined : Determines 0 is-digit-kinds.ps is-digit-kinds.r is-digit-reads.Learnt
-is-digit-determined κs a r s x y p q = determined p q
 
 pub letters-determined : Determines 1 letters-kinds.ps letters-kinds.r letters-reads.Learnt
 letters-determined κs a r s x y p q = determined p q

@@ -19,7 +19,7 @@ use Rattle.words.specs.Bytes.{letter}
 use Rattle.words.proofs.Ranges.{between-high}
 use Rattle.figures.specs.Reads.{Reads}
 use Rattle.figures.specs.Letters.{lettersOf, inLetters, goodLetters}
-use Rattle.figures.proofs.Kept.{Back}
+use Rattle.figures.proofs.ReadsLaws.{Back}
 
 pub letter-small : (x : ℕ) → letter x ≡ true → x < 256
 letter-small x e = omega (arith, between-high 65 90 x e)

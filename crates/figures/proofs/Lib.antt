@@ -1,9 +1,8 @@
 pub mod Reading
 pub mod FigureLaws
-pub mod Kept
+pub mod ReadsLaws
 pub mod LetterLaws
-pub mod Keywords
 pub mod Determined
-pub mod Codes
+pub mod CodeLaws
 pub mod TableLaws
 pub mod PlainLaws

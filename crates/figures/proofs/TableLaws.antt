@@ -1,24 +1,54 @@
 -- Tables of fixed words that a record keeps as a number: a code tells the number, and number and word undo one another.
 -- Assumes nothing.
 use mathlib.Core.Bool.{Bool, true, false, not}
-use mathlib.Core.List.{List, [], _∷_}
+use mathlib.Core.List.{List, [], _∷_, map}
 use mathlib.Core.Logic.{inl, inr}
 use mathlib.Core.Path.{_≡_, refl, ap, sym, _∙_}
-use Prim.Native.Nat.{ℕ, _+_, _-_, _≤_, _<_}
-use native.Mathlib.Nat.{add-sub-cancel-left}
+use Prim.Native.Nat.{ℕ, zero, suc, _+_, _-_, _≤_, _<_}
+use native.Mathlib.Nat.{add-sub-cancel-left, not-suc-le-zero, le-of-suc-le-suc, le-refl}
 use native.Mathlib.Omega.{arith}
 use lib.Dec.{leb, ltb, eqb}
-use lib.ListN.{length}
-use borrow.Author.Tests.{ltb-true, lt-ltb, le-ltb, le-leb, lt-leb}
-use Rattle.lists.specs.Lists.{allOf, same}
+use lib.ListN.{length, getD}
+use borrow.Author.Tests.{ltb-true, ltb-false, not-true, lt-ltb, le-ltb, le-leb, lt-leb}
+use Rattle.lists.specs.Lists.{allOf, indexOf, same}
 use Rattle.lists.proofs.Choice.{by, both-left, both-right, both-true, both-false-left, pick-true, pick-false}
-use Rattle.lists.proofs.Lists.{all-at, index-none, index-found, same-is}
+use Rattle.lists.proofs.Lists.{all-at, index-none, index-found, index-within, same-refl, same-is}
 use Rattle.words.proofs.Ranges.{between-low, between-high}
 use Rattle.figures.specs.Reads.{Reads}
-use Rattle.figures.specs.Keywords.{short, codeOf, wordIn, wordOf, inTable, distinct}
-use Rattle.figures.specs.Tables.{numberIn, numbered, inNumbers}
-use Rattle.figures.proofs.Kept.{Back}
-use Rattle.figures.proofs.Keywords.{same-code, code-tells, table-reads}
+use Rattle.figures.specs.Codes.{short, codeOf}
+use Rattle.figures.specs.Tables.{wordIn, wordOf, inTable, distinct, numberIn, numbered, inNumbers}
+use Rattle.figures.proofs.ReadsLaws.{Back}
+use Rattle.figures.proofs.CodeLaws.{same-code, code-tells}
+
+pub find-word : (table : List (List ℕ)) (w : List ℕ) → allOf short table ≡ true → indexOf (eqb (codeOf w)) (map codeOf table) ≡ wordIn table w
+unfolding indexOf allOf
+find-word [] w t = refl
+find-word (k ∷ ks) w t =
+    let h : eqb (codeOf w) (codeOf k) ≡ same w k = same-code w k (both-left (short k) (allOf short ks) t) in
+    let r : indexOf (eqb (codeOf w)) (map codeOf ks) ≡ indexOf (same w) ks = find-word ks w (both-right (short k) (allOf short ks) t) in
+    cc
+
+table-forth : (table : List (List ℕ)) → distinct table ≡ true → (n : ℕ) → n < length table → wordIn table (wordOf table n) ≡ n
+unfolding distinct indexOf
+table-forth [] t n h = absurd (not-suc-le-zero h)
+table-forth (k ∷ ks) t zero h = rw (same-refl k)
+table-forth (k ∷ ks) t (suc n) h =
+    let apart : allOf (λ (x : List ℕ). not (same x k)) ks ≡ true = both-left (allOf (λ (x : List ℕ). not (same x k)) ks) (distinct ks) t in
+    let other : same (getD ks n []) k ≡ false = not-true (same (getD ks n []) k) (all-at (λ (x : List ℕ). not (same x k)) ks [] apart n (le-of-suc-le-suc h)) in
+    rw other (ap suc (table-forth ks (both-right (allOf (λ (x : List ℕ). not (same x k)) ks) (distinct ks) t) n (le-of-suc-le-suc h)))
+
+table-back : (table : List (List ℕ)) (w : List ℕ) → Back (wordOf table) (inTable table) (length table) w (wordIn table w)
+table-back table w =
+    by (inTable table (wordIn table w))
+    (λ e. inr (e, sym (same-is w (wordOf table (wordIn table w)) (index-found (same w) table [] (ltb-true (wordIn table w) (length table) e)))))
+    (λ f. inl (omega (arith, ltb-false (wordIn table w) (length table) f, index-within (same w) table)))
+
+pub table-reads : (table : List (List ℕ)) → distinct table ≡ true → Reads (wordIn table) (wordOf table) (inTable table) (length table)
+table-reads table t = record {
+  forth = λ n g. table-forth table t n (ltb-true n (length table) g);
+  back = table-back table;
+  refuses = le-ltb (length table) (length table) (le-refl (length table));
+}
 
 -- a word with the code of the table's word k has number first + k
 pub number-at : (first : ℕ) (table : List (List ℕ)) (k : ℕ) (w : List ℕ) → distinct table ≡ true → allOf short table ≡ true → k < length table → codeOf w ≡ codeOf (wordOf table k) → first + k ≡ numberIn first table w

@@ -1,5 +1,5 @@
 pub mod Reads
 pub mod Figures
 pub mod Letters
-pub mod Keywords
+pub mod Codes
 pub mod Tables

@@ -14,5 +14,5 @@ pub record Reads {A : Type 0} (read : List ℕ → A) (spell : A → List ℕ) (
   pub refuses : good none ≡ false
 
 -- the value where it is good
-abbrev pub kept : {A : Type 0} → (A → Bool) → A → A → A
-kept good none v = pick (good v) v none
+abbrev pub ifGood : {A : Type 0} → (A → Bool) → A → A → A
+ifGood good none v = pick (good v) v none

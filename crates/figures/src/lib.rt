@@ -2,23 +2,11 @@
 ghost use mathlib.Core.Path.{_≡_};
 ghost use lib.Dec.{eqb};
 ghost use Rattle.lists.specs.Lists.{indexOf};
-ghost use Rattle.words.specs.Bytes.{letter, digit};
 ghost use Rattle.figures.specs.Figures.{figuresOf, twoOf, threeOf};
 ghost use Rattle.figures.specs.Letters.{lettersOf};
-ghost use Rattle.figures.specs.Keywords.{codeOf};
-use lists::both;
-
-pub fn is_letter(x: u8) -> bool
-    ensures { λ r. ⌜ r ≡ letter x ⌝ }
-{
-    both(65 <= x, x <= 90)
-}
-
-pub fn is_digit(x: u8) -> bool
-    ensures { λ r. ⌜ r ≡ digit x ⌝ }
-{
-    both(48 <= x, x <= 57)
-}
+ghost use Rattle.figures.specs.Codes.{codeOf};
+use words::is_digit;
+use words::is_letter;
 
 // A word of k letters as one number, k at most 4; 0 where it is no such word.
 pub fn letters(w: &[u8], k: usize) -> u32
@@ -57,7 +45,7 @@ pub fn figures(w: &[u8]) -> u32
         if !is_digit(x) {
             return 100000;
         }
-        n = n * 10 + (x - 48) as u32;
+        n = n * 10 + (x - b'0') as u32;
         i += 1;
     }
     n

@@ -15,7 +15,7 @@ use Rattle.lists.proofs.Lists.{all-append}
 use Rattle.words.specs.Words.{plainWord}
 use Rattle.figures.specs.Letters.{lettersOf, inLetters, goodLetters}
 use Rattle.figures.specs.Tables.{numbered}
-use Rattle.figures.proofs.Kept.{reads-spelled}
+use Rattle.figures.proofs.ReadsLaws.{reads-spelled}
 use Rattle.names.specs.Names.{closingWords, closingOf, goodClosing, nameWord, inName, pieces}
 use Rattle.names.proofs.NameLaws.{closing-reads, closing-plain}
 use Rattle.message.specs.Limits.{nameBytes}

@@ -14,7 +14,7 @@ use Rattle.lists.proofs.Lists.{all-append, same-is}
 use Rattle.words.specs.Bytes.{allowed}
 use Rattle.words.specs.Words.{plainWord}
 use Rattle.figures.specs.Figures.{figuresOf}
-use Rattle.figures.proofs.Kept.{reads-spelled}
+use Rattle.figures.proofs.ReadsLaws.{reads-spelled}
 use Rattle.coordinates.specs.Coordinates.{northSouth, eastWest, coordinateOf, goodCoordinate, spellCoordinate}
 use Rattle.coordinates.specs.Points.{pointWords}
 use Rattle.coordinates.proofs.Axes.{latitude-reads, longitude-reads, latitude-plain, longitude-plain}

@@ -18,7 +18,7 @@ use Rattle.words.specs.Bytes.{between, allowed}
 use Rattle.words.specs.Words.{plainWord}
 use Rattle.figures.specs.Figures.{figuresOf}
 use Rattle.figures.specs.Reads.{Reads}
-use Rattle.figures.proofs.Kept.{Back, reads-spelled}
+use Rattle.figures.proofs.ReadsLaws.{Back, reads-spelled}
 use Rattle.figures.proofs.TableLaws.{numbered-all}
 use Rattle.groups.specs.Groups.{goodGroup, timeOf, goodTime, spellTime}
 use Rattle.groups.specs.declared.Period.{Period}

@@ -14,7 +14,7 @@ use Rattle.lists.specs.Lists.{allOf, indexOf, same}
 use Rattle.lists.specs.Text.{bytes}
 use Rattle.lists.proofs.Choice.{by, clash, both-left, both-right, both-true, either-left, either-right, either-cases}
 use Rattle.lists.proofs.Lists.{same-is, all-append, index-past}
-use Rattle.figures.proofs.Kept.{reads-spelled}
+use Rattle.figures.proofs.ReadsLaws.{reads-spelled}
 use Rattle.coordinates.specs.Coordinates.{Axis, northSouth, eastWest, coordinateOf, goodCoordinate, spellCoordinate}
 use Rattle.coordinates.specs.Points.{samePoint, goodPoint, emptyPoint, noPoint, pointWords}
 use Rattle.coordinates.specs.declared.Coordinate.{Coordinate}

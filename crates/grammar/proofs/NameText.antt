@@ -15,7 +15,7 @@ use Rattle.lists.specs.Lists.{allOf, indexOf, same}
 use Rattle.lists.specs.Text.{bytes}
 use Rattle.lists.proofs.Choice.{by, clash, both-left, both-right, both-true, both-false-left}
 use Rattle.words.specs.Words.{plainWord, line}
-use Rattle.figures.specs.Keywords.{wordIn, inTable}
+use Rattle.figures.specs.Tables.{wordIn, inTable}
 use Rattle.names.specs.Names.{closingWords, closingOf, goodClosing, nameWord, closers, inName, pieces, nameText}
 use Rattle.names.proofs.NameLaws.{pieces-some, pieces-one, pieces-grow, line-pieces, name-some, name-one, name-grow, in-name-spaceless, pieces-plain}
 use Rattle.message.specs.Limits.{nameBytes}

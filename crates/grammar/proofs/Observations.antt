@@ -17,7 +17,7 @@ use Rattle.words.specs.Bytes.{between, allowed}
 use Rattle.words.specs.Words.{plainWord}
 use Rattle.words.proofs.Ranges.{between-high}
 use Rattle.figures.specs.Figures.{figuresOf}
-use Rattle.figures.proofs.Kept.{reads-spelled}
+use Rattle.figures.proofs.ReadsLaws.{reads-spelled}
 use Rattle.groups.specs.Groups.{goodTime, timeOf, spellTime}
 use Rattle.groups.specs.declared.Time.{Time}
 use Rattle.groups.proofs.GroupLaws.{time-made, time-reads, time-plain}

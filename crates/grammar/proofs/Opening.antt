@@ -17,7 +17,7 @@ use Rattle.words.specs.Words.{plainWord}
 use Rattle.figures.specs.Figures.{figuresOf}
 use Rattle.figures.specs.Letters.{lettersOf, inLetters, goodLetters}
 use Rattle.figures.specs.Reads.{Reads}
-use Rattle.figures.proofs.Kept.{reads-spelled}
+use Rattle.figures.proofs.ReadsLaws.{reads-spelled}
 use Rattle.figures.proofs.LetterLaws.{letters-reads, length-inLetters}
 use Rattle.figures.proofs.PlainLaws.{inLetters-plain, run-plain}
 use Rattle.groups.specs.Groups.{groupOf, goodGroup, spellGroup, periodOf, goodPeriod, spellPeriod}

@@ -15,9 +15,8 @@ use Rattle.lists.proofs.Lists.{all-at, same-is}
 use Rattle.words.specs.Bytes.{between, allowed}
 use Rattle.words.specs.Words.{plainWord}
 use Rattle.words.proofs.Ranges.{between-high}
-use Rattle.figures.specs.Keywords.{distinct}
+use Rattle.figures.specs.Tables.{distinct, numbered}
 use Rattle.figures.specs.Reads.{Reads}
-use Rattle.figures.specs.Tables.{numbered}
 use Rattle.figures.proofs.TableLaws.{numbers-reads}
 use Rattle.message.specs.Limits.{ws, ashCloud, eruption}
 use Rattle.message.specs.Reports.{phenomena, emptyVolcano, noVolcano, goodPhenomenon, phenomenonWords}

@@ -20,7 +20,7 @@ use Rattle.words.proofs.Ranges.{between-high}
 use Rattle.figures.specs.Figures.{inFigures, twoOf}
 use Rattle.figures.specs.Reads.{Reads}
 use Rattle.figures.proofs.FigureLaws.{length-inFigures, two-forth, two-back}
-use Rattle.figures.proofs.Kept.{kept-reads, reads-spelled}
+use Rattle.figures.proofs.ReadsLaws.{if-good-reads, reads-spelled}
 use Rattle.figures.proofs.PlainLaws.{inFigures-plain, run-plain}
 use Rattle.groups.specs.Groups.{onClock, goodGroup, noGroup, groupOf, spellGroup, goodPeriod, noPeriod, periodOf, spellPeriod, goodTime, noTime, timeOf, spellTime}
 use Rattle.groups.specs.declared.Group.{Group}
@@ -109,7 +109,7 @@ group-spelled w e t =
 pub group-reads : Reads groupOf spellGroup goodGroup noGroup
 unfolding groupOf goodGroup
 group-reads =
-    kept-reads (λ (w : List ℕ). eqb (length w) 6) groupValue spellGroup goodGroup noGroup (λ g t. eq-eqb (length (spellGroup g)) 6 (length-group g)) group-gives group-spelled refl
+    if-good-reads (λ (w : List ℕ). eqb (length w) 6) groupValue spellGroup goodGroup noGroup (λ g t. eq-eqb (length (spellGroup g)) 6 (length-group g)) group-gives group-spelled refl
 
 -- The period.
 
@@ -156,7 +156,7 @@ period-spelled w e t =
 
 pub period-reads : Reads periodOf spellPeriod goodPeriod noPeriod
 unfolding periodOf goodPeriod goodGroup
-period-reads = kept-reads periodTest periodValue spellPeriod goodPeriod noPeriod period-passes period-gives period-spelled refl
+period-reads = if-good-reads periodTest periodValue spellPeriod goodPeriod noPeriod period-passes period-gives period-spelled refl
 
 -- The time.
 
@@ -202,7 +202,7 @@ time-spelled w e g =
 
 pub time-reads : Reads timeOf spellTime goodTime noTime
 unfolding timeOf goodTime
-time-reads = kept-reads timeTest timeValue spellTime goodTime noTime time-passes time-gives time-spelled refl
+time-reads = if-good-reads timeTest timeValue spellTime goodTime noTime time-passes time-gives time-spelled refl
 
 -- What is spelled is a word of plain bytes.
 

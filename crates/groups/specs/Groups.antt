@@ -11,7 +11,7 @@ use Rattle.lists.specs.Lists.{part}
 use Rattle.lists.specs.Text.{bytes}
 use Rattle.words.specs.Bytes.{between}
 use Rattle.figures.specs.Figures.{twoOf, inFigures}
-use Rattle.figures.specs.Reads.{kept}
+use Rattle.figures.specs.Reads.{ifGood}
 use Rattle.groups.specs.declared.Group.{Group}
 use Rattle.groups.specs.declared.Period.{Period}
 use Rattle.groups.specs.declared.Time.{Time}
@@ -35,7 +35,7 @@ noGroup = record { day = 0; hour = 0; minute = 0 }
 unfoldable pub groupOf : List ℕ → Group
 groupOf w =
     pick (eqb (length w) 6)
-    (kept goodGroup noGroup (record { day = twoOf (part 0 2 w); hour = twoOf (part 2 4 w); minute = twoOf (part 4 6 w) }))
+    (ifGood goodGroup noGroup (record { day = twoOf (part 0 2 w); hour = twoOf (part 2 4 w); minute = twoOf (part 4 6 w) }))
     noGroup
 
 unfoldable pub spellGroup : Group → List ℕ
@@ -51,7 +51,7 @@ noPeriod = record { from = noGroup; to = noGroup }
 unfoldable pub periodOf : List ℕ → Period
 periodOf w =
     pick (both (eqb (length w) 13) (eqb (getD w 6 0) (code "/")))
-    (kept goodPeriod noPeriod (record { from = groupOf (part 0 6 w); to = groupOf (part 7 13 w) }))
+    (ifGood goodPeriod noPeriod (record { from = groupOf (part 0 6 w); to = groupOf (part 7 13 w) }))
     noPeriod
 
 unfoldable pub spellPeriod : Period → List ℕ
@@ -67,7 +67,7 @@ noTime = record { hour = 24; minute = 0 }
 unfoldable pub timeOf : List ℕ → Time
 timeOf w =
     pick (both (eqb (length w) 5) (eqb (getD w 4 0) (code "Z")))
-    (kept goodTime noTime (record { hour = twoOf (part 0 2 w); minute = twoOf (part 2 4 w) }))
+    (ifGood goodTime noTime (record { hour = twoOf (part 0 2 w); minute = twoOf (part 2 4 w) }))
     noTime
 
 unfoldable pub spellTime : Time → List ℕ

@@ -4,23 +4,39 @@ ghost use Rattle.groups.specs.Groups.{goodGroup, groupOf, goodPeriod, pe
 use figures::two;
 use lists::both;
 
-// All zero is no group.
 pub struct Group {
     pub day: u8,
     pub hour: u8,
     pub minute: u8,
 }
 
+pub const NO_GROUP: Group = Group {
+    day: 0,
+    hour: 0,
+    minute: 0,
+};
+
 pub struct Period {
     pub from: Group,
     pub to: Group,
 }
 
-// Hour and minute of a day; hour 24 is what `time_word` answers where a word is no time.
+pub const NO_PERIOD: Period = Period {
+    from: NO_GROUP,
+    to: NO_GROUP,
+};
+
+// Hour and minute of a day.
 pub struct Time {
     pub hour: u8,
     pub minute: u8,
 }
+
+// What `time_word` answers where a word is no time: 0000Z is one.
+pub const NO_TIME: Time = Time {
+    hour: 24,
+    minute: 0,
+};
 
 fn on_clock(hour: u8, minute: u8) -> bool
     ensures { λ r. ⌜ r ≡ onClock hour minute ⌝ }
@@ -45,19 +61,14 @@ pub fn same_group(g: Group, h: Group) -> bool
 pub fn group_word(w: &[u8]) -> Group
     ensures { λ r. ⌜ r ≡ groupOf (now (w .entry)) ⌝ }
 {
-    let none = Group {
-        day: 0,
-        hour: 0,
-        minute: 0,
-    };
     if w.len() != 6 {
-        return none;
+        return NO_GROUP;
     }
     let day = two(&w[0..2]);
     let hour = two(&w[2..4]);
     let minute = two(&w[4..6]);
     let g = Group { day, hour, minute };
-    if good_group(g) { g } else { none }
+    if good_group(g) { g } else { NO_GROUP }
 }
 
 pub fn good_period(p: Period) -> bool
@@ -72,22 +83,16 @@ pub fn good_period(p: Period) -> bool
 pub fn period_word(w: &[u8]) -> Period
     ensures { λ r. ⌜ r ≡ periodOf (now (w .entry)) ⌝ }
 {
-    let day = Group {
-        day: 0,
-        hour: 0,
-        minute: 0,
-    };
-    let none = Period { from: day, to: day };
     if w.len() != 13 {
-        return none;
+        return NO_PERIOD;
     }
-    if w[6] != 47 {
-        return none;
+    if w[6] != b'/' {
+        return NO_PERIOD;
     }
     let from = group_word(&w[0..6]);
     let to = group_word(&w[7..13]);
     let p = Period { from, to };
-    if good_period(p) { p } else { none }
+    if good_period(p) { p } else { NO_PERIOD }
 }
 
 pub fn good_time(t: Time) -> bool
@@ -100,18 +105,14 @@ pub fn good_time(t: Time) -> bool
 pub fn time_word(w: &[u8]) -> Time
     ensures { λ r. ⌜ r ≡ timeOf (now (w .entry)) ⌝ }
 {
-    let none = Time {
-        hour: 24,
-        minute: 0,
-    };
     if w.len() != 5 {
-        return none;
+        return NO_TIME;
     }
-    if w[4] != 90 {
-        return none;
+    if w[4] != b'Z' {
+        return NO_TIME;
     }
     let hour = two(&w[0..2]);
     let minute = two(&w[2..4]);
     let t = Time { hour, minute };
-    if good_time(t) { t } else { none }
+    if good_time(t) { t } else { NO_TIME }
 }

@@ -22,11 +22,11 @@ use Rattle.words.specs.Words.{plainWord}
 use Rattle.words.proofs.Ranges.{between-high}
 use Rattle.figures.specs.Figures.{twoOf, inFigures}
 use Rattle.figures.specs.Letters.{lettersOf, inLetters, goodLetters}
-use Rattle.figures.specs.Keywords.{short, codeOf, distinct, wordOf}
+use Rattle.figures.specs.Codes.{short, codeOf}
+use Rattle.figures.specs.Tables.{distinct, wordOf, numbered}
 use Rattle.figures.specs.Reads.{Reads}
-use Rattle.figures.specs.Tables.{numbered}
 use Rattle.figures.proofs.FigureLaws.{length-inFigures, two-forth, two-back}
-use Rattle.figures.proofs.Kept.{Back, kept-reads, reads-spelled}
+use Rattle.figures.proofs.ReadsLaws.{Back, if-good-reads, reads-spelled}
 use Rattle.figures.proofs.LetterLaws.{length-inLetters, letters-reads}
 use Rattle.figures.proofs.PlainLaws.{letter-plain, inFigures-plain, inLetters-plain, run-plain}
 use Rattle.figures.proofs.TableLaws.{number-at, number-none, numbered-all, numbers-reads}
@@ -133,7 +133,7 @@ designator-spelled w e t =
 pub designator-reads : Reads designatorOf spellDesignator goodDesignator noDesignator
 unfolding designatorOf goodDesignator
 designator-reads =
-    kept-reads (λ (w : List ℕ). eqb (length w) 6) designatorValue spellDesignator goodDesignator noDesignator
+    if-good-reads (λ (w : List ℕ). eqb (length w) 6) designatorValue spellDesignator goodDesignator noDesignator
     (λ d t. eq-eqb (length (spellDesignator d)) 6 (length-designator d t))
     designator-gives
     designator-spelled
@@ -173,7 +173,7 @@ correction-spelled w t =
 pub correction-reads : Reads correctionOf spellCorrection goodCorrection 0
 unfolding correctionOf goodCorrection
 correction-reads =
-    kept-reads correctionTest (λ (w : List ℕ). getD w 2 0) spellCorrection goodCorrection 0
+    if-good-reads correctionTest (λ (w : List ℕ). getD w 2 0) spellCorrection goodCorrection 0
     (λ c g. refl)
     (λ c g. refl)
     (λ w t g. correction-spelled w t)

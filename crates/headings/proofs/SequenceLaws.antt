@@ -21,7 +21,7 @@ use Rattle.words.proofs.Ranges.{between-low, between-high}
 use Rattle.figures.specs.Figures.{threeOf, inFigures}
 use Rattle.figures.specs.Reads.{Reads}
 use Rattle.figures.proofs.FigureLaws.{length-inFigures, inFigures-digits, three-forth, three-back}
-use Rattle.figures.proofs.Kept.{kept-reads}
+use Rattle.figures.proofs.ReadsLaws.{if-good-reads}
 use Rattle.figures.proofs.PlainLaws.{letter-plain, inFigures-plain, run-plain, plain-cons}
 use Rattle.headings.specs.Sequences.{characters, goodSequence, noSequence, lettered, unlettered, sequenceOf, spellSequence}
 use Rattle.headings.specs.declared.Sequence.{Sequence}
@@ -124,7 +124,7 @@ sequence-spelled w t g =
 pub sequence-reads : Reads sequenceOf spellSequence goodSequence noSequence
 unfolding sequenceOf goodSequence
 sequence-reads =
-    kept-reads (λ (w : List ℕ). between 1 3 (length w)) sequenceValue spellSequence goodSequence noSequence sequence-passes sequence-gives sequence-spelled refl
+    if-good-reads (λ (w : List ℕ). between 1 3 (length w)) sequenceValue spellSequence goodSequence noSequence sequence-passes sequence-gives sequence-spelled refl
 
 pub sequence-plain : (s : Sequence) → goodSequence s ≡ true → plainWord (spellSequence s) ≡ true
 sequence-plain s g =

@@ -13,7 +13,7 @@ use Rattle.lists.specs.Text.{bytes}
 use Rattle.words.specs.Bytes.{between}
 use Rattle.figures.specs.Figures.{twoOf, inFigures}
 use Rattle.figures.specs.Letters.{lettersOf, inLetters, goodLetters}
-use Rattle.figures.specs.Reads.{kept}
+use Rattle.figures.specs.Reads.{ifGood}
 use Rattle.figures.specs.Tables.{numberIn, numbered, inNumbers}
 use Rattle.headings.specs.declared.Designator.{Designator}
 
@@ -38,7 +38,7 @@ noDesignator = record { kind = 0; region = 0; number = 0 }
 unfoldable pub designatorOf : List ℕ → Designator
 designatorOf w =
     pick (eqb (length w) 6)
-    (kept goodDesignator noDesignator (record { kind = typeOf (part 0 2 w); region = lettersOf 2 (part 2 4 w); number = twoOf (part 4 6 w) }))
+    (ifGood goodDesignator noDesignator (record { kind = typeOf (part 0 2 w); region = lettersOf 2 (part 2 4 w); number = twoOf (part 4 6 w) }))
     noDesignator
 
 unfoldable pub spellDesignator : Designator → List ℕ
@@ -50,7 +50,7 @@ goodCorrection c = between (code "A") (code "X") c
 
 unfoldable pub correctionOf : List ℕ → ℕ
 correctionOf w =
-    pick (both (eqb (length w) 3) (both (eqb (getD w 0 0) (code "C")) (eqb (getD w 1 0) (code "C")))) (kept goodCorrection 0 (getD w 2 0)) 0
+    pick (both (eqb (length w) 3) (both (eqb (getD w 0 0) (code "C")) (eqb (getD w 1 0) (code "C")))) (ifGood goodCorrection 0 (getD w 2 0)) 0
 
 abbrev pub spellCorrection : ℕ → List ℕ
 spellCorrection c = code "C" ∷ code "C" ∷ c ∷ []

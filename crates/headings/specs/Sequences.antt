@@ -8,7 +8,7 @@ use lib.ListN.{length, getD, drop}
 use Rattle.lists.specs.Choice.{pick, both, either}
 use Rattle.words.specs.Bytes.{between, letter as isLetter}
 use Rattle.figures.specs.Figures.{threeOf, inFigures}
-use Rattle.figures.specs.Reads.{kept}
+use Rattle.figures.specs.Reads.{ifGood}
 use Rattle.headings.specs.declared.Sequence.{Sequence}
 
 -- "perhaps a letter, then digits": no letter and 1 to 3 digits, or a letter and 1 or 2
@@ -30,7 +30,7 @@ unlettered w = record { letter = 0; digits = length w; number = threeOf w }
 
 unfoldable pub sequenceOf : List ℕ → Sequence
 sequenceOf w =
-    pick (between 1 3 (length w)) (kept goodSequence noSequence (pick (isLetter (getD w 0 0)) (lettered w) (unlettered w))) noSequence
+    pick (between 1 3 (length w)) (ifGood goodSequence noSequence (pick (isLetter (getD w 0 0)) (lettered w) (unlettered w))) noSequence
 
 -- the letter, where there is one
 abbrev pub letterOf : ℕ → List ℕ

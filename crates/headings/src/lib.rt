@@ -7,26 +7,43 @@ ghost use Rattle.figures.specs.Letters.{goodLetters};
 ghost use Rattle.headings.specs.Headings.{typeOf, goodDesignator, designatorOf, goodCorrection, correctionOf, officeOf};
 ghost use Rattle.headings.specs.Sequences.{goodSequence, sequenceOf};
 use figures::code;
-use figures::is_letter;
 use figures::letters;
 use figures::three;
 use figures::two;
 use lists::both;
 use lists::either;
+use words::is_letter;
 
-// The type as its kind in the listing, 2 WS or 3 WV; the two letters in base 256; the two digits. All zero is none.
+// A type is kept as its kind in the listing.
+pub const KIND_WS: u8 = 2;
+
+pub const KIND_WV: u8 = 3;
+
+// The kind, the two letters in base 256 and the two digits.
 pub struct Designator {
     pub kind: u8,
     pub region: u32,
     pub number: u8,
 }
 
-// As written: a letter or 0, how many digits, and the number that they count. All zero is none.
+pub const NO_DESIGNATOR: Designator = Designator {
+    kind: 0,
+    region: 0,
+    number: 0,
+};
+
+// As written: a letter or 0, how many digits, and the number that they count.
 pub struct Sequence {
     pub letter: u8,
     pub digits: u8,
     pub number: u16,
 }
+
+pub const NO_SEQUENCE: Sequence = Sequence {
+    letter: 0,
+    digits: 0,
+    number: 0,
+};
 
 // The number is that of two letters.
 pub fn two_letters(n: u32) -> bool
@@ -53,11 +70,11 @@ fn kind_of(w: &[u8]) -> u8
     ensures { λ r. ⌜ r ≡ typeOf (now (w .entry)) ⌝ }
 {
     let c = code(w);
-    if c == 0x01_57_53 {
-        return 2;
+    if c == vocabulary::WS {
+        return KIND_WS;
     }
-    if c == 0x01_57_56 {
-        return 3;
+    if c == vocabulary::WV {
+        return KIND_WV;
     }
     0
 }
@@ -65,7 +82,7 @@ fn kind_of(w: &[u8]) -> u8
 pub fn good_designator(d: Designator) -> bool
     ensures { λ r. ⌜ r ≡ goodDesignator d ⌝ }
 {
-    let kind = both(2 <= d.kind, d.kind <= 3);
+    let kind = both(KIND_WS <= d.kind, d.kind <= KIND_WV);
     both(kind, both(two_letters(d.region), d.number <= 99))
 }
 
@@ -73,13 +90,8 @@ pub fn good_designator(d: Designator) -> bool
 pub fn designator_word(w: &[u8]) -> Designator
     ensures { λ r. ⌜ r ≡ designatorOf (now (w .entry)) ⌝ }
 {
-    let none = Designator {
-        kind: 0,
-        region: 0,
-        number: 0,
-    };
     if w.len() != 6 {
-        return none;
+        return NO_DESIGNATOR;
     }
     let kind = kind_of(&w[0..2]);
     let region = letters(&w[2..4], 2);
@@ -89,13 +101,13 @@ pub fn designator_word(w: &[u8]) -> Designator
         region,
         number,
     };
-    if good_designator(d) { d } else { none }
+    if good_designator(d) { d } else { NO_DESIGNATOR }
 }
 
 pub fn good_correction(c: u8) -> bool
     ensures { λ r. ⌜ r ≡ goodCorrection c ⌝ }
 {
-    both(65 <= c, c <= 88)
+    both(b'A' <= c, c <= b'X')
 }
 
 // The letter of a correction, `CCA` to `CCX`, or 0.
@@ -105,10 +117,10 @@ pub fn correction_word(w: &[u8]) -> u8
     if w.len() != 3 {
         return 0;
     }
-    if w[0] != 67 {
+    if w[0] != b'C' {
         return 0;
     }
-    if w[1] != 67 {
+    if w[1] != b'C' {
         return 0;
     }
     let c = w[2];
@@ -122,7 +134,7 @@ pub fn office_word(w: &[u8]) -> u32
     if w.len() != 5 {
         return 0;
     }
-    if w[4] != 45 {
+    if w[4] != b'-' {
         return 0;
     }
     letters(&w[0..4], 4)
@@ -154,33 +166,30 @@ pub fn good_sequence(s: Sequence) -> bool
 pub fn sequence_word(w: &[u8]) -> Sequence
     ensures { λ r. ⌜ r ≡ sequenceOf (now (w .entry)) ⌝ }
 {
-    let none = Sequence {
-        letter: 0,
-        digits: 0,
-        number: 0,
-    };
     let length = w.len();
     if length < 1 {
-        return none;
+        return NO_SEQUENCE;
     }
     if 3 < length {
-        return none;
+        return NO_SEQUENCE;
     }
     let first = w[0];
     if is_letter(first) {
         let number = three(&w[1..]);
+        let digits = (length - 1) as u8;
         let s = Sequence {
             letter: first,
-            digits: (length - 1) as u8,
+            digits,
             number,
         };
-        return if good_sequence(s) { s } else { none };
+        return if good_sequence(s) { s } else { NO_SEQUENCE };
     }
     let number = three(w);
+    let digits = length as u8;
     let s = Sequence {
         letter: 0,
-        digits: length as u8,
+        digits,
         number,
     };
-    if good_sequence(s) { s } else { none }
+    if good_sequence(s) { s } else { NO_SEQUENCE }
 }

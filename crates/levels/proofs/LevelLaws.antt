@@ -22,9 +22,9 @@ use Rattle.words.specs.Bytes.{between, allowed, plain}
 use Rattle.words.specs.Words.{plainWord}
 use Rattle.words.proofs.Ranges.{between-low, between-high}
 use Rattle.figures.specs.Figures.{figuresOf, inFigures}
-use Rattle.figures.specs.Reads.{Reads, kept}
+use Rattle.figures.specs.Reads.{Reads, ifGood}
 use Rattle.figures.proofs.FigureLaws.{figures-forth, figures-part}
-use Rattle.figures.proofs.Kept.{Back, kept-back}
+use Rattle.figures.proofs.ReadsLaws.{Back, if-good-back}
 use Rattle.figures.proofs.PlainLaws.{inFigures-plain, run-plain}
 use Rattle.levels.specs.declared.Level.{Level}
 use Rattle.levels.specs.declared.Level.the-variants.{NoLevel, Flight, SurfaceFlight, SurfaceMetres, SurfaceFeet, Band, TopFlight, AboveFlight, TopAboveFlight}
@@ -80,8 +80,8 @@ picked w false p q = q refl
 chosen : (w : List ℕ) (b c : Bool) {x : Level} → (b ≡ true → c ≡ true → Read w x) → Read w (pick (both b c) x NoLevel)
 chosen w b c p = picked w (both b c) (λ t. p (both-left b c t) (both-right b c t)) (λ f. none w)
 
-spelled : (w : List ℕ) (l : Level) → (goodLevelWord l ≡ true → drop 0 w ≡ spellLevelWord l) → Read w (kept goodLevelWord NoLevel l)
-spelled w l p = kept-back spellLevelWord goodLevelWord NoLevel w l (λ g. sym (p g))
+spelled : (w : List ℕ) (l : Level) → (goodLevelWord l ≡ true → drop 0 w ≡ spellLevelWord l) → Read w (ifGood goodLevelWord NoLevel l)
+spelled w l p = if-good-back spellLevelWord goodLevelWord NoLevel w l (λ g. sym (p g))
 
 -- the figures of a part whose number is in range
 in-range : (w : List ℕ) (a e b : ℕ) → a ≤ e → e ≤ length w → b < 100000 → between 1 b (figuresOf (part a e w)) ≡ true → part a e w ≡ inFigures (e - a) (figuresOf (part a e w))

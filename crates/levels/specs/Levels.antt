@@ -12,7 +12,7 @@ use Rattle.lists.specs.Lists.{part, same}
 use Rattle.lists.specs.Text.{bytes}
 use Rattle.words.specs.Bytes.{between}
 use Rattle.figures.specs.Figures.{figuresOf, inFigures}
-use Rattle.figures.specs.Reads.{kept}
+use Rattle.figures.specs.Reads.{ifGood}
 use Rattle.levels.specs.declared.Level.{Level}
 use Rattle.levels.specs.declared.Level.the-variants.{NoLevel, Flight, SurfaceFlight, SurfaceMetres, SurfaceFeet, Band, TopFlight, AboveFlight, TopAboveFlight}
 
@@ -53,19 +53,19 @@ spellLevelWord (TopAboveFlight n) = []
 
 -- the words of five bytes: `FLnnn`
 abbrev pub five : List ℕ → Level
-five w = pick (same (part 0 2 w) (bytes "FL")) (kept goodLevelWord NoLevel (Flight (figuresOf (part 2 5 w)))) NoLevel
+five w = pick (same (part 0 2 w) (bytes "FL")) (ifGood goodLevelWord NoLevel (Flight (figuresOf (part 2 5 w)))) NoLevel
 
 -- the words of nine bytes after `SFC/`: `FLnnn` and `nnnnM`
 abbrev pub surfaceNine : List ℕ → Level
 surfaceNine w =
-    pick (same (part 4 6 w) (bytes "FL")) (kept goodLevelWord NoLevel (SurfaceFlight (figuresOf (part 6 9 w))))
-    (pick (eqb (getD w 8 0) (code "M")) (kept goodLevelWord NoLevel (SurfaceMetres (figuresOf (part 4 8 w)))) NoLevel)
+    pick (same (part 4 6 w) (bytes "FL")) (ifGood goodLevelWord NoLevel (SurfaceFlight (figuresOf (part 6 9 w))))
+    (pick (eqb (getD w 8 0) (code "M")) (ifGood goodLevelWord NoLevel (SurfaceMetres (figuresOf (part 4 8 w)))) NoLevel)
 
 -- the words of nine bytes that do not begin with `SFC/`: `FLnnn/nnn`
 abbrev pub bandNine : List ℕ → Level
 bandNine w =
     pick (both (same (part 0 2 w) (bytes "FL")) (eqb (getD w 5 0) (code "/")))
-    (kept goodLevelWord NoLevel (Band (figuresOf (part 2 5 w)) (figuresOf (part 6 9 w))))
+    (ifGood goodLevelWord NoLevel (Band (figuresOf (part 2 5 w)) (figuresOf (part 6 9 w))))
     NoLevel
 
 abbrev pub nine : List ℕ → Level

@@ -20,6 +20,13 @@ pub enum Level {
     TopAboveFlight(u32),
 }
 
+// The greatest numbers of three, four and five digits.
+const MOST_FLIGHT: u32 = 999;
+
+const MOST_METRES: u32 = 9999;
+
+const MOST_FEET: u32 = 99999;
+
 fn is_between(low: u32, high: u32, n: u32) -> bool
     ensures { λ r. ⌜ r ≡ between low high n ⌝ }
 {
@@ -30,11 +37,11 @@ fn five_bytes(w: &[u8]) -> Level
     requires { ⌜ length (now w) ≡ 5 ⌝ }
     ensures { λ r. ⌜ r ≡ five (now (w .entry)) ⌝ }
 {
-    if code(&w[0..2]) != 0x01_46_4c {
+    if code(&w[0..2]) != vocabulary::FL {
         return Level::NoLevel;
     }
     let n = figures(&w[2..5]);
-    if is_between(1, 999, n) {
+    if is_between(1, MOST_FLIGHT, n) {
         Level::Flight(n)
     } else {
         Level::NoLevel
@@ -45,19 +52,19 @@ fn surface_nine(w: &[u8]) -> Level
     requires { ⌜ length (now w) ≡ 9 ⌝ }
     ensures { λ r. ⌜ r ≡ surfaceNine (now (w .entry)) ⌝ }
 {
-    if code(&w[4..6]) == 0x01_46_4c {
+    if code(&w[4..6]) == vocabulary::FL {
         let n = figures(&w[6..9]);
-        return if is_between(1, 999, n) {
+        return if is_between(1, MOST_FLIGHT, n) {
             Level::SurfaceFlight(n)
         } else {
             Level::NoLevel
         };
     }
-    if w[8] != 77 {
+    if w[8] != b'M' {
         return Level::NoLevel;
     }
     let n = figures(&w[4..8]);
-    if is_between(1, 9999, n) {
+    if is_between(1, MOST_METRES, n) {
         Level::SurfaceMetres(n)
     } else {
         Level::NoLevel
@@ -68,8 +75,8 @@ fn good_band(low: u32, high: u32) -> bool
     ensures { λ r. ⌜ r ≡ goodBand low high ⌝ }
 {
     both(
-        is_between(1, 999, low),
-        both(is_between(1, 999, high), low < high),
+        is_between(1, MOST_FLIGHT, low),
+        both(is_between(1, MOST_FLIGHT, high), low < high),
     )
 }
 
@@ -77,10 +84,10 @@ fn band_nine(w: &[u8]) -> Level
     requires { ⌜ length (now w) ≡ 9 ⌝ }
     ensures { λ r. ⌜ r ≡ bandNine (now (w .entry)) ⌝ }
 {
-    if code(&w[0..2]) != 0x01_46_4c {
+    if code(&w[0..2]) != vocabulary::FL {
         return Level::NoLevel;
     }
-    if w[5] != 47 {
+    if w[5] != b'/' {
         return Level::NoLevel;
     }
     let low = figures(&w[2..5]);
@@ -96,15 +103,15 @@ fn nine_bytes(w: &[u8]) -> Level
     requires { ⌜ length (now w) ≡ 9 ⌝ }
     ensures { λ r. ⌜ r ≡ nine (now (w .entry)) ⌝ }
 {
-    if code(&w[0..4]) == 0x01_53_46_43_2f {
+    if code(&w[0..4]) == vocabulary::SURFACE {
         surface_nine(w)
     } else {
         band_nine(w)
     }
 }
 
-// In how many figures so many feet are written.
-fn feet_figures(n: u32) -> usize
+// In how many figures so many feet are written: five from 10000 up.
+pub fn feet_figures(n: u32) -> u8
     ensures { λ r. ⌜ r ≡ feetFigures n ⌝ }
 {
     match n {
@@ -118,14 +125,14 @@ fn ten_or_eleven(w: &[u8]) -> Level
     ensures { λ r. ⌜ r ≡ tenEleven (now (w .entry)) ⌝ }
 {
     let past = w.len() - 2;
-    if code(&w[0..4]) != 0x01_53_46_43_2f {
+    if code(&w[0..4]) != vocabulary::SURFACE {
         return Level::NoLevel;
     }
-    if code(&w[past..]) != 0x01_46_54 {
+    if code(&w[past..]) != vocabulary::FT {
         return Level::NoLevel;
     }
     let n = figures(&w[4..past]);
-    if both(is_between(1, 99999, n), feet_figures(n) == past - 4) {
+    if both(is_between(1, MOST_FEET, n), feet_figures(n) as usize == past - 4) {
         Level::SurfaceFeet(n)
     } else {
         Level::NoLevel
@@ -157,14 +164,14 @@ pub fn good_level(l: Level) -> bool
 {
     match l {
         Level::NoLevel => false,
-        Level::Flight(n) => is_between(1, 999, n),
-        Level::SurfaceFlight(n) => is_between(1, 999, n),
-        Level::SurfaceMetres(n) => is_between(1, 9999, n),
-        Level::SurfaceFeet(n) => is_between(1, 99999, n),
+        Level::Flight(n) => is_between(1, MOST_FLIGHT, n),
+        Level::SurfaceFlight(n) => is_between(1, MOST_FLIGHT, n),
+        Level::SurfaceMetres(n) => is_between(1, MOST_METRES, n),
+        Level::SurfaceFeet(n) => is_between(1, MOST_FEET, n),
         Level::Band(low, high) => good_band(low, high),
-        Level::TopFlight(n) => is_between(1, 999, n),
-        Level::AboveFlight(n) => is_between(1, 999, n),
-        Level::TopAboveFlight(n) => is_between(1, 999, n),
+        Level::TopFlight(n) => is_between(1, MOST_FLIGHT, n),
+        Level::AboveFlight(n) => is_between(1, MOST_FLIGHT, n),
+        Level::TopAboveFlight(n) => is_between(1, MOST_FLIGHT, n),
     }
 }
 

@@ -11,7 +11,7 @@ mod rows;
 
 use board::Board;
 use pens::put;
-use pens::put_letters;
+use pens::put_big_endian;
 use places::Place;
 use rows::Rows;
 use rows::rows_at;
@@ -26,7 +26,7 @@ fn put_time(out: &mut [u8], time: u32) -> usize
     ensures { λ r. ⌜ Puts (timeRecord time) 0 (now (out .entry)) r (now (out .exit)) ⌝ }
 {
     let next = put(out, 0, 1);
-    put_letters(out, next, time, 4)
+    put_big_endian(out, next, time, 4)
 }
 
 fn correction_byte(c: u8) -> u8
@@ -44,11 +44,11 @@ fn put_record(out: &mut [u8], p: Place) -> usize
 {
     let correction = correction_byte(p.correction);
     let a = put(out, 0, p.identity.kind);
-    let b = put_letters(out, a, p.identity.area, 4);
-    let c = put_letters(out, b, p.identity.sequence, 3);
+    let b = put_big_endian(out, a, p.identity.area, 4);
+    let c = put_big_endian(out, b, p.identity.sequence, 3);
     let d = put(out, c, correction);
-    let e = put_letters(out, d, p.identity.start, 4);
-    put_letters(out, e, p.identity.end, 4)
+    let e = put_big_endian(out, d, p.identity.start, 4);
+    put_big_endian(out, e, p.identity.end, 4)
 }
 
 // The whole listing, for which there is room. Each record goes in from the place where the one before it ended.

@@ -17,17 +17,16 @@ use Rattle.lists.proofs.Lists.{all-at, all-append, length-part}
 use Rattle.words.specs.Bytes.{between, allowed, plain}
 use Rattle.words.specs.Words.{runOf, plainWord}
 use Rattle.figures.specs.Figures.{twoOf, inFigures}
-use Rattle.figures.specs.Keywords.{short, codeOf, distinct, wordOf}
+use Rattle.figures.specs.Codes.{short, codeOf}
+use Rattle.figures.specs.Tables.{distinct, wordOf, numberIn, numbered, inNumbers}
 use Rattle.figures.specs.Reads.{Reads}
-use Rattle.figures.specs.Tables.{numberIn, numbered, inNumbers}
 use Rattle.figures.proofs.FigureLaws.{length-inFigures, two-forth, two-back}
-use Rattle.figures.proofs.Keywords.{find-word, table-reads}
+use Rattle.figures.proofs.TableLaws.{find-word, table-reads, number-at, number-none, numbers-reads, numbered-all}
 use Rattle.figures.proofs.PlainLaws.{inFigures-plain}
-use Rattle.figures.proofs.TableLaws.{number-at, number-none, numbers-reads, numbered-all}
 use Rattle.motions.specs.Motions.{compassWords, compassOf, goodCompass, spellCompass, intensityWords, intensityOf, goodIntensity, spellIntensity}
 use Rattle.motions.specs.Speeds.{unitWords, goodSpeed, noSpeed, speedOf, spellSpeed}
 use Rattle.motions.specs.declared.Speed.{Speed}
-use Rattle.figures.proofs.Kept.{kept-reads, reads-spelled}
+use Rattle.figures.proofs.ReadsLaws.{if-good-reads, reads-spelled}
 
 -- The compass.
 
@@ -150,7 +149,7 @@ speed-spelled w t =
 
 pub speed-reads : Reads speedOf spellSpeed goodSpeed noSpeed
 unfolding speedOf goodSpeed
-speed-reads = kept-reads (λ (w : List ℕ). true) speedValue spellSpeed goodSpeed noSpeed (λ s t. refl) speed-gives (λ w e t. speed-spelled w t) refl
+speed-reads = if-good-reads (λ (w : List ℕ). true) speedValue spellSpeed goodSpeed noSpeed (λ s t. refl) speed-gives (λ w e t. speed-spelled w t) refl
 
 pub speed-plain : (s : Speed) → goodSpeed s ≡ true → plainWord (spellSpeed s) ≡ true
 unfolding spellSpeed

@@ -4,8 +4,7 @@ use mathlib.Core.Bool.{Bool}
 use mathlib.Core.List.{List, [], _∷_}
 use Prim.Native.Nat.{ℕ}
 use Rattle.lists.specs.Text.{bytes}
-use Rattle.figures.specs.Keywords.{wordIn, wordOf, inTable}
-use Rattle.figures.specs.Tables.{numberIn, numbered, inNumbers}
+use Rattle.figures.specs.Tables.{wordIn, wordOf, inTable, numberIn, numbered, inNumbers}
 
 -- "The sixteen points of the compass are numbered 0 (N) to 15 (NNW) clockwise in the record."
 unfoldable pub compassWords : List (List ℕ)

@@ -9,7 +9,7 @@ use Rattle.lists.specs.Lists.{part}
 use Rattle.lists.specs.Text.{bytes}
 use Rattle.words.specs.Bytes.{between}
 use Rattle.figures.specs.Figures.{twoOf, inFigures}
-use Rattle.figures.specs.Reads.{kept}
+use Rattle.figures.specs.Reads.{ifGood}
 use Rattle.figures.specs.Tables.{numberIn, numbered, inNumbers}
 use Rattle.motions.specs.declared.Speed.{Speed}
 
@@ -24,7 +24,7 @@ abbrev pub noSpeed : Speed
 noSpeed = record { value = 0; unit = 0 }
 
 unfoldable pub speedOf : List ℕ → Speed
-speedOf w = kept goodSpeed noSpeed (record { value = twoOf (part 0 2 w); unit = numberIn 1 unitWords (drop 2 w) })
+speedOf w = ifGood goodSpeed noSpeed (record { value = twoOf (part 0 2 w); unit = numberIn 1 unitWords (drop 2 w) })
 
 unfoldable pub spellSpeed : Speed → List ℕ
 spellSpeed s = inFigures 2 (s .value) ++ numbered 1 unitWords (s .unit)

@@ -8,30 +8,32 @@ use figures::find;
 use figures::two;
 use lists::both;
 
-// 1 to 99, in 1 knots or 2 kilometres an hour. All zero is none.
+// 1 to 99, in 1 knots or 2 kilometres an hour.
 pub struct Speed {
     pub value: u8,
     pub unit: u8,
 }
 
+const NO_SPEED: Speed = Speed { value: 0, unit: 0 };
+
 // The codes of `N`, `NNE` and so on, clockwise.
 const COMPASS: [u64; 16] = [
-    0x01_4e,
-    0x01_4e_4e_45,
-    0x01_4e_45,
-    0x01_45_4e_45,
-    0x01_45,
-    0x01_45_53_45,
-    0x01_53_45,
-    0x01_53_53_45,
-    0x01_53,
-    0x01_53_53_57,
-    0x01_53_57,
-    0x01_57_53_57,
-    0x01_57,
-    0x01_57_4e_57,
-    0x01_4e_57,
-    0x01_4e_4e_57,
+    vocabulary::N,
+    vocabulary::NNE,
+    vocabulary::NE,
+    vocabulary::ENE,
+    vocabulary::E,
+    vocabulary::ESE,
+    vocabulary::SE,
+    vocabulary::SSE,
+    vocabulary::S,
+    vocabulary::SSW,
+    vocabulary::SW,
+    vocabulary::WSW,
+    vocabulary::W,
+    vocabulary::WNW,
+    vocabulary::NW,
+    vocabulary::NNW,
 ];
 
 // The number of a compass point, 0 for N to 15 for NNW; 16 for any other word.
@@ -46,13 +48,13 @@ pub fn intensity_word(w: &[u8]) -> u8
     ensures { λ r. ⌜ r ≡ intensityOf (now (w .entry)) ⌝ }
 {
     let c = code(w);
-    if c == 0x01_49_4e_54_53_46 {
+    if c == vocabulary::INTSF {
         return 1;
     }
-    if c == 0x01_57_4b_4e {
+    if c == vocabulary::WKN {
         return 2;
     }
-    if c == 0x01_4e_43 {
+    if c == vocabulary::NC {
         return 3;
     }
     0
@@ -63,10 +65,10 @@ fn unit_of(w: &[u8]) -> u8
     ensures { λ r. ⌜ r ≡ numberIn 1 unitWords (now (w .entry)) ⌝ }
 {
     let c = code(w);
-    if c == 0x01_4b_54 {
+    if c == vocabulary::KT {
         return 1;
     }
-    if c == 0x01_4b_4d_48 {
+    if c == vocabulary::KMH {
         return 2;
     }
     0
@@ -85,12 +87,11 @@ pub fn good_speed(s: Speed) -> bool
 pub fn speed_word(w: &[u8]) -> Speed
     ensures { λ r. ⌜ r ≡ speedOf (now (w .entry)) ⌝ }
 {
-    let none = Speed { value: 0, unit: 0 };
     if w.len() < 2 {
-        return none;
+        return NO_SPEED;
     }
     let value = two(&w[0..2]);
     let unit = unit_of(&w[2..]);
     let s = Speed { value, unit };
-    if good_speed(s) { s } else { none }
+    if good_speed(s) { s } else { NO_SPEED }
 }

@@ -21,10 +21,10 @@ use Rattle.lists.proofs.Parts.{part-rest}
 use Rattle.words.specs.Bytes.{letter, solid, allowed, plain}
 use Rattle.words.specs.Words.{plainWord, line}
 use Rattle.words.proofs.Words.{run-all}
-use Rattle.figures.specs.Keywords.{codeOf, distinct, wordIn, inTable}
+use Rattle.figures.specs.Codes.{codeOf}
+use Rattle.figures.specs.Tables.{distinct, wordIn, inTable, numbered}
 use Rattle.figures.specs.Reads.{Reads}
-use Rattle.figures.specs.Tables.{numbered}
-use Rattle.figures.proofs.Keywords.{same-code}
+use Rattle.figures.proofs.CodeLaws.{same-code}
 use Rattle.figures.proofs.PlainLaws.{letter-plain, byte-solid}
 use Rattle.figures.proofs.TableLaws.{numbered-all, numbers-reads}
 use Rattle.names.specs.Names.{closingWords, closingOf, goodClosing, nameByte, nameWord, closers, inName, onto, pieces, nameText}

@@ -11,8 +11,7 @@ use Rattle.lists.specs.Choice.{pick, both, either}
 use Rattle.lists.specs.Lists.{allOf}
 use Rattle.lists.specs.Text.{bytes}
 use Rattle.words.specs.Bytes.{letter}
-use Rattle.figures.specs.Keywords.{wordIn, inTable}
-use Rattle.figures.specs.Tables.{numberIn, inNumbers}
+use Rattle.figures.specs.Tables.{wordIn, inTable, numberIn, inNumbers}
 
 -- the closing words of an area's name: `FIR`, `FIR/UIR` or `CTA`
 unfoldable pub closingWords : List (List ℕ)

@@ -4,9 +4,9 @@ ghost use lib.Dec.{eqb};
 ghost use Rattle.lists.specs.Lists.{allOf, indexFrom};
 ghost use Rattle.names.specs.Names.{nameByte, nameWord, closingOf, inName, nameText};
 use figures::code;
-use figures::is_letter;
 use lists::both;
 use lists::either;
+use words::is_letter;
 
 fn all_name_bytes(w: &[u8]) -> bool
     ensures { λ r. ⌜ r ≡ allOf nameByte (now (w .entry)) ⌝ }
@@ -14,7 +14,7 @@ fn all_name_bytes(w: &[u8]) -> bool
     let mut i = 0;
     while i < w.len() {
         let x = w[i];
-        if !either(is_letter(x), x == 45) {
+        if !either(is_letter(x), x == b'-') {
             return false;
         }
         i += 1;
@@ -35,19 +35,22 @@ pub fn name_word(w: &[u8]) -> bool
     both(all_name_bytes(w), both(first, last))
 }
 
+// The number of the closing word `CTA`.
+pub const CLOSED_BY_CTA: u8 = 3;
+
 // 1 for `FIR`, 2 for `FIR/UIR`, 3 for `CTA`, 0 for any other word.
 pub fn closing_word(w: &[u8]) -> u8
     ensures { λ r. ⌜ r ≡ closingOf (now (w .entry)) ⌝ }
 {
     let c = code(w);
-    if c == 0x01_46_49_52 {
+    if c == vocabulary::FIR {
         return 1;
     }
-    if c == 0x01_46_49_52_2f_55_49_52 {
+    if c == vocabulary::FIR_UIR {
         return 2;
     }
-    if c == 0x01_43_54_41 {
-        return 3;
+    if c == vocabulary::CTA {
+        return CLOSED_BY_CTA;
     }
     0
 }
@@ -58,7 +61,7 @@ pub fn in_name(w: &[u8], mountain: bool) -> bool
 {
     let word = name_word(w);
     if mountain {
-        return both(word, code(w) != 0x01_50_53_4e);
+        return both(word, code(w) != vocabulary::PSN);
     }
     both(word, closing_word(w) == 0)
 }
@@ -68,7 +71,7 @@ fn first_space(t: &[u8], start: usize) -> usize
 {
     let mut i = start;
     while i < t.len() {
-        if 32 == t[i] {
+        if b' ' == t[i] {
             return i;
         }
         i += 1;

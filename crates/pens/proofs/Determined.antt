@@ -12,10 +12,12 @@ use Rattle.pens.proofs.put_word.Kinds as put-word-kinds
 use Rattle.pens.proofs.put_word.Reads as put-word-reads
 use Rattle.pens.proofs.put_figures.Kinds as put-figures-kinds
 use Rattle.pens.proofs.put_figures.Reads as put-figures-reads
-use Rattle.pens.proofs.put_letters.Kinds as put-letters-kinds
-use Rattle.pens.proofs.put_letters.Reads as put-letters-reads
-use Rattle.pens.proofs.put_short.Kinds as put-short-kinds
-use Rattle.pens.proofs.put_short.Reads as put-short-reads
+use Rattle.pens.proofs.put_big_endian.Kinds as put-big-endian-kinds
+use Rattle.pens.proofs.put_big_endian.Reads as put-big-endian-reads
+use Rattle.pens.proofs.put_code.Kinds as put-code-kinds
+use Rattle.pens.proofs.put_code.Reads as put-code-reads
+use Rattle.pens.proofs.put_fixed.Kinds as put-fixed-kinds
+use Rattle.pens.proofs.put_fixed.Reads as put-fixed-reads
 
 -- a pen is a reply with a page: the two parts of an outcome
 pub put-settles : Settles 1 put-kinds.ps put-kinds.r put-reads.Learnt
@@ -30,8 +32,11 @@ put-word-settles κs a r s x y p q = (ap (λ (z : Pen). z .at) (words-same p q),
 pub put-figures-settles : Settles 1 put-figures-kinds.ps put-figures-kinds.r put-figures-reads.Learnt
 put-figures-settles κs a r s x y p q = (ap (λ (z : Pen). z .at) (puts-same p q), ap (λ (z : Pen). (z .page, x .1)) (puts-same p q))
 
-pub put-letters-settles : Settles 1 put-letters-kinds.ps put-letters-kinds.r put-letters-reads.Learnt
-put-letters-settles κs a r s x y p q = (ap (λ (z : Pen). z .at) (puts-same p q), ap (λ (z : Pen). (z .page, x .1)) (puts-same p q))
+pub put-big-endian-settles : Settles 1 put-big-endian-kinds.ps put-big-endian-kinds.r put-big-endian-reads.Learnt
+put-big-endian-settles κs a r s x y p q = (ap (λ (z : Pen). z .at) (puts-same p q), ap (λ (z : Pen). (z .page, x .1)) (puts-same p q))
 
-pub put-short-settles : Settles 1 put-short-kinds.ps put-short-kinds.r put-short-reads.Learnt
-put-short-settles κs a r s x y p q = (ap (λ (z : Pen). z .at) (words-same p q), ap (λ (z : Pen). (z .page, x .1)) (words-same p q))
+pub put-code-settles : Settles 1 put-code-kinds.ps put-code-kinds.r put-code-reads.Learnt
+put-code-settles κs a r s x y p q = (ap (λ (z : Pen). z .at) (puts-same p q), ap (λ (z : Pen). (z .page, x .1)) (puts-same p q))
+
+pub put-fixed-settles : Settles 1 put-fixed-kinds.ps put-fixed-kinds.r put-fixed-reads.Learnt
+put-fixed-settles κs a r s x y p q = (ap (λ (z : Pen). z .at) (words-same p q), ap (λ (z : Pen). (z .page, x .1)) (words-same p q))

@@ -8,10 +8,11 @@ use native.Mathlib.Numerals.{add-one, sub-one}
 use native.Mathlib.Omega.{arith}
 use lib.ListN.{length, getD, take, drop, set, length-set}
 use lib.Seq.{take-all, take-suc, sets, sets-eq}
-use borrow.Author.Tests.{lt-ltb, le-ltb, ne-eqb}
+use borrow.Author.Tests.{lt-ltb, le-ltb}
 use Rattle.lists.specs.Base.{places}
 use Rattle.words.specs.Words.{line}
-use Rattle.pens.specs.Pens.{Pen, pen, stroke, strokes, Puts, spaced, Words, Line, shifted, packedIn}
+use Rattle.figures.specs.Codes.{FixedWord, behindOne, spellCode}
+use Rattle.pens.specs.Pens.{Pen, pen, stroke, strokes, Puts, spaced, Words, Line, shifted}
 
 -- Texts.
 
@@ -69,24 +70,24 @@ pub unshifted : (l : List ℕ) → map (λ (d : ℕ). d + 0) l ≡ l
 unshifted [] = refl
 unshifted (x ∷ l) = rw (add-zero x, unshifted l)
 
--- no byte of a word kept as one number, where no more may come or none is left, and one more
-pub no-more : (k n : ℕ) {at : ℕ} {page : List ℕ} → k ≡ 0 → Puts (packedIn k n) at page at page
-unfolding packedIn strokes
+-- no byte behind the 1 of a code, where no more may come or none is left, and one more
+pub no-more : (k n : ℕ) {at : ℕ} {page : List ℕ} → k ≡ 0 → Puts (behindOne k n) at page at page
+unfolding behindOne strokes
 no-more k n e = record { says = rw e }
 
-pub none-left : (k n : ℕ) {at : ℕ} {page : List ℕ} → n ≡ 0 → Puts (packedIn k n) at page at page
-unfolding packedIn strokes
+pub none-left : (k n : ℕ) {at : ℕ} {page : List ℕ} → n < 256 → Puts (behindOne k n) at page at page
+unfolding behindOne strokes
 none-left zero n e = record { says = refl }
-none-left (suc k) n e = record { says = rw e }
+none-left (suc k) n e = record { says = rw (lt-ltb n 256 e) }
 
-pub byte-more : (k n : ℕ) {at m o : ℕ} {page p q : List ℕ} → (k ≡ 0 → ⊥) → (n ≡ 0 → ⊥) → Puts (packedIn (k - 1) (n / 256)) at page m p
-    → Puts (n % 256 ∷ []) m p o q → Puts (packedIn k n) at page o q
-unfolding packedIn
+pub byte-more : (k n : ℕ) {at m o : ℕ} {page p q : List ℕ} → (k ≡ 0 → ⊥) → 256 ≤ n → Puts (behindOne (k - 1) (n / 256)) at page m p
+    → Puts (n % 256 ∷ []) m p o q → Puts (behindOne k n) at page o q
+unfolding behindOne
 byte-more zero n h i f g = absurd (h refl)
 byte-more (suc k) n h i f g =
-    let both : Puts (packedIn (suc k - 1) (n / 256) ++ (n % 256 ∷ [])) _ _ _ _ = then f g in
+    let both : Puts (behindOne (suc k - 1) (n / 256) ++ (n % 256 ∷ [])) _ _ _ _ = then f g in
     let e : suc k - 1 ≡ k = sub-one (suc k) in
-    record { says = rw (ne-eqb n 0 i) (rw e at (both .says)) }
+    record { says = rw (le-ltb n 256 i) (rw e at (both .says)) }
 
 -- Words.
 
@@ -104,8 +105,16 @@ and-then {a} {b} {at} {n} {m} {page} f g =
     record { says = ap (λ (t : List ℕ). strokes t (pen at page)) (spaced-append a b) ∙ (strokes-append (spaced a) (spaced b) (pen at page) ∙ (ap (strokes (spaced b)) (f .says) ∙ g .says)) }
 
 -- a word by another name
-pub told : {v w : List ℕ} {at n : ℕ} {page p : List ℕ} → v ≡ w → Words (v ∷ []) at page n p → Words (w ∷ []) at page n p
-told e f = rw e at f
+pub renamed : {v w : List ℕ} {at n : ℕ} {page p : List ℕ} → v ≡ w → Words (v ∷ []) at page n p → Words (w ∷ []) at page n p
+renamed e f = rw e at f
+
+-- a fixed word by its code
+pub fixed : {k : List ℕ} {code : ℕ} {at n : ℕ} {page p : List ℕ} → FixedWord k code → Words (spellCode code ∷ []) at page n p → Words (k ∷ []) at page n p
+fixed w f = renamed (w .spelled) f
+
+-- … without a space
+pub coded : {k : List ℕ} {code : ℕ} {at n : ℕ} {page p : List ℕ} → FixedWord k code → Puts (spellCode code) at page n p → Puts k at page n p
+coded w f = rw (w .spelled) at f
 
 -- a space begins a word of no byte yet
 pub a-space : {at n : ℕ} {page p : List ℕ} → Puts (32 ∷ []) at page n p → Words ([] ∷ []) at page n p

@@ -3,8 +3,8 @@
 use mathlib.Core.List.{List, [], _∷_, _++_, map}
 use mathlib.Core.Path.{_≡_}
 use Prim.Native.Char.{code}
-use Prim.Native.Nat.{ℕ, zero, suc, _+_, _/_, _%_}
-use lib.Dec.{ltb, eqb}
+use Prim.Native.Nat.{ℕ, _+_}
+use lib.Dec.{ltb}
 use lib.ListN.{length, set}
 use Rattle.lists.specs.Choice.{pick}
 use Rattle.lists.specs.Base.{places}
@@ -46,12 +46,3 @@ pub record Line (words : List (List ℕ)) (at : ℕ) (page : List ℕ) (next : �
 -- the last k places of n in a base, each as a byte counted from `first`
 abbrev pub shifted : ℕ → ℕ → ℕ → ℕ → List ℕ
 shifted first base k n = map (λ (d : ℕ). d + first) (places base k n)
-
--- the bytes of a word that is kept as one number in base 256, at most k of them; 0 is the empty word
-unfoldable pub packedIn : ℕ → ℕ → List ℕ
-packedIn zero n = []
-packedIn (suc k) n = pick (eqb n 0) [] (packedIn k (n / 256) ++ (n % 256 ∷ []))
-
--- a word of at most eight bytes
-abbrev pub packed : ℕ → List ℕ
-packed n = packedIn 8 n

@@ -2,9 +2,10 @@
 // stops: what does not fit is not put, and the pen stays.
 ghost use mathlib.Core.List.{[], _∷_};
 ghost use Prim.Native.Nat.{_+_, _≤_, _<_};
+ghost use Rattle.lists.specs.Base.{places};
+ghost use Rattle.figures.specs.Codes.{behindOne, spellCode};
 ghost use Rattle.figures.specs.Figures.{inFigures};
-ghost use Rattle.figures.specs.Letters.{inLetters};
-ghost use Rattle.pens.specs.Pens.{Puts, Words, shifted, packedIn, packed};
+ghost use Rattle.pens.specs.Pens.{Puts, Words, shifted};
 
 // One byte.
 pub fn put(out: &mut [u8], at: usize, x: u8) -> usize
@@ -54,34 +55,41 @@ fn put_places(out: &mut [u8], at: usize, n: u32, k: u8, base: u32, first: u8) ->
 pub fn put_figures(out: &mut [u8], at: usize, n: u32, k: u8) -> usize
     ensures { λ r. ⌜ Puts (inFigures k n) at (now (out .entry)) r (now (out .exit)) ⌝ }
 {
-    put_places(out, at, n, k, 10, 48)
+    put_places(out, at, n, k, 10, b'0')
 }
 
-// The last k letters of those kept as one number.
-pub fn put_letters(out: &mut [u8], at: usize, n: u32, k: u8) -> usize
-    ensures { λ r. ⌜ Puts (inLetters k n) at (now (out .entry)) r (now (out .exit)) ⌝ }
+// The last k bytes of n, the greatest first: letters are kept so, and the numbers of a listing are written so.
+pub fn put_big_endian(out: &mut [u8], at: usize, n: u32, k: u8) -> usize
+    ensures { λ r. ⌜ Puts (places 256 k n) at (now (out .entry)) r (now (out .exit)) ⌝ }
 {
     put_places(out, at, n, k, 256, 0)
 }
 
-// The bytes of a word kept as one number, at most k of them; 0 is the empty word.
-fn put_packed(out: &mut [u8], at: usize, n: u64, k: u8) -> usize
-    ensures { λ r. ⌜ Puts (packedIn k n) at (now (out .entry)) r (now (out .exit)) ⌝ }
+// The bytes of a code behind its 1, at most k of them.
+fn put_behind_one(out: &mut [u8], at: usize, code: u64, k: u8) -> usize
+    ensures { λ r. ⌜ Puts (behindOne k code) at (now (out .entry)) r (now (out .exit)) ⌝ }
 {
     if k == 0 {
         return at;
     }
-    if n == 0 {
+    if code < 256 {
         return at;
     }
-    let next = put_packed(out, at, n / 256, k - 1);
-    put(out, next, (n % 256) as u8)
+    let next = put_behind_one(out, at, code / 256, k - 1);
+    put(out, next, (code % 256) as u8)
 }
 
-// A space, and behind it a word of at most eight bytes that is kept as one number, its first byte the greatest place.
-pub fn put_short(out: &mut [u8], at: usize, word: u64) -> usize
-    ensures { λ r. ⌜ Words (packed word ∷ []) at (now (out .entry)) r (now (out .exit)) ⌝ }
+// The word of a code.
+pub fn put_code(out: &mut [u8], at: usize, code: u64) -> usize
+    ensures { λ r. ⌜ Puts (spellCode code) at (now (out .entry)) r (now (out .exit)) ⌝ }
+{
+    put_behind_one(out, at, code, 7)
+}
+
+// A space, and the word of a code behind it.
+pub fn put_fixed(out: &mut [u8], at: usize, code: u64) -> usize
+    ensures { λ r. ⌜ Words (spellCode code ∷ []) at (now (out .entry)) r (now (out .exit)) ⌝ }
 {
     let first = put(out, at, b' ');
-    put_packed(out, first, word, 8)
+    put_code(out, first, code)
 }

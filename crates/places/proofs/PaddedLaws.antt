@@ -19,7 +19,7 @@ use Rattle.words.specs.Bytes.{between, letter, digit}
 use Rattle.words.proofs.Ranges.{between-low, between-high}
 use Rattle.figures.specs.Figures.{inFigures}
 use Rattle.figures.proofs.FigureLaws.{length-inFigures, inFigures-digits}
-use Rattle.figures.proofs.Kept.{reads-spelled}
+use Rattle.figures.proofs.ReadsLaws.{reads-spelled}
 use Rattle.headings.specs.Sequences.{characters, goodSequence, sequenceOf, spellSequence}
 use Rattle.headings.specs.declared.Sequence.{Sequence}
 use Rattle.headings.proofs.SequenceLaws.{sequence-reads}

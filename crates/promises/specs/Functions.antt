@@ -112,10 +112,10 @@ use Rattle.pens.proofs.put_word.Kinds as pens-put-word-kinds
 use Rattle.pens.proofs.put_word.Reads as pens-put-word-reads
 use Rattle.pens.proofs.put_figures.Kinds as pens-put-figures-kinds
 use Rattle.pens.proofs.put_figures.Reads as pens-put-figures-reads
-use Rattle.pens.proofs.put_letters.Kinds as pens-put-letters-kinds
-use Rattle.pens.proofs.put_letters.Reads as pens-put-letters-reads
-use Rattle.pens.proofs.put_short.Kinds as pens-put-short-kinds
-use Rattle.pens.proofs.put_short.Reads as pens-put-short-reads
+use Rattle.pens.proofs.put_big_endian.Kinds as pens-put-big-endian-kinds
+use Rattle.pens.proofs.put_big_endian.Reads as pens-put-big-endian-reads
+use Rattle.pens.proofs.put_fixed.Kinds as pens-put-fixed-kinds
+use Rattle.pens.proofs.put_fixed.Reads as pens-put-fixed-reads
 use Rattle.calendar.proofs.limit_of.Kinds as calendar-limit-of-kinds
 use Rattle.calendar.proofs.limit_of.Reads as calendar-limit-of-reads
 use Rattle.calendar.proofs.start_of.Kinds as calendar-start-of-kinds
@@ -227,8 +227,8 @@ pub record Functions : Type 0 where
   pub pens-put-all : Settles 2 pens-put-all-kinds.ps pens-put-all-kinds.r pens-put-all-reads.Learnt
   pub pens-put-word : Settles 2 pens-put-word-kinds.ps pens-put-word-kinds.r pens-put-word-reads.Learnt
   pub pens-put-figures : Settles 1 pens-put-figures-kinds.ps pens-put-figures-kinds.r pens-put-figures-reads.Learnt
-  pub pens-put-letters : Settles 1 pens-put-letters-kinds.ps pens-put-letters-kinds.r pens-put-letters-reads.Learnt
-  pub pens-put-short : Settles 1 pens-put-short-kinds.ps pens-put-short-kinds.r pens-put-short-reads.Learnt
+  pub pens-put-big-endian : Settles 1 pens-put-big-endian-kinds.ps pens-put-big-endian-kinds.r pens-put-big-endian-reads.Learnt
+  pub pens-put-fixed : Settles 1 pens-put-fixed-kinds.ps pens-put-fixed-kinds.r pens-put-fixed-reads.Learnt
   -- calendar
   pub calendar-limit-of : Determines 0 calendar-limit-of-kinds.ps calendar-limit-of-kinds.r calendar-limit-of-reads.Learnt
   pub calendar-start-of : Determines 0 calendar-start-of-kinds.ps calendar-start-of-kinds.r calendar-start-of-reads.Learnt

@@ -4,7 +4,7 @@ use mathlib.Core.Path.{refl}
 use Rattle.lists.specs.Base.{worthAfter}
 use Rattle.lists.specs.Lists.{allOf, same}
 use Rattle.lists.specs.Text.{bytes}
-use Rattle.figures.specs.Keywords.{codeOf}
+use Rattle.figures.specs.Codes.{codeOf}
 use Rattle.reader_sections.specs.Kinds.{FixedWord}
 
 pub fixed-sigmet : FixedWord (bytes "SIGMET") 0x015349474d4554

@@ -12,9 +12,10 @@ use Rattle.lists.specs.Lists.{allOf, indexOf, part, same}
 use Rattle.lists.specs.Text.{bytes}
 use Rattle.lists.proofs.Choice.{by, clash, both-true}
 use Rattle.lists.proofs.Lists.{same-refl, same-is}
-use Rattle.figures.specs.Keywords.{short, codeOf, wordIn}
-use Rattle.figures.proofs.Keywords.{find-word}
-use Rattle.figures.proofs.Kept.{reads-spelled}
+use Rattle.figures.specs.Codes.{short, codeOf}
+use Rattle.figures.specs.Tables.{wordIn}
+use Rattle.figures.proofs.TableLaws.{find-word}
+use Rattle.figures.proofs.ReadsLaws.{reads-spelled}
 use Rattle.keywords.specs.Keywords.{shortKeywords, longKeywords, keywords, keywordOf, goodKeyword, spellKeyword}
 use Rattle.keywords.proofs.KeywordLaws.{keyword-reads}
 use Rattle.grammar.specs.States.{ToArea}

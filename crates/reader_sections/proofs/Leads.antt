@@ -10,8 +10,8 @@ use lib.ListN.{length}
 use borrow.Author.Tests.{eq-eqb, ne-eqb, eqb-true, eqb-false}
 use Rattle.lists.specs.Lists.{part, same}
 use Rattle.lists.proofs.Choice.{by, clash, pick-true, pick-false}
-use Rattle.figures.specs.Keywords.{codeOf}
-use Rattle.figures.proofs.Keywords.{same-code}
+use Rattle.figures.specs.Codes.{codeOf}
+use Rattle.figures.proofs.CodeLaws.{same-code}
 use Rattle.headings.specs.Headings.{correctionOf, goodCorrection}
 use Rattle.keywords.specs.Keywords.{keywordOf}
 use Rattle.message.specs.declared.Record.{Record}

@@ -13,8 +13,8 @@ use Rattle.lists.specs.Base.{worthAfter}
 use Rattle.lists.specs.Lists.{allOf, part, same}
 use Rattle.lists.proofs.Choice.{by, either-right, either-cases, pick-true, pick-false}
 use Rattle.lists.proofs.Lists.{same-refl, same-is}
-use Rattle.figures.specs.Keywords.{codeOf}
-use Rattle.figures.proofs.Keywords.{code-tells}
+use Rattle.figures.specs.Codes.{codeOf}
+use Rattle.figures.proofs.CodeLaws.{code-tells}
 use Rattle.coordinates.specs.Coordinates.{Axis, northSouth, eastWest, coordinateOf, goodCoordinate}
 use Rattle.coordinates.specs.declared.Coordinate.{Coordinate}
 use Rattle.message.specs.Limits.{cta}

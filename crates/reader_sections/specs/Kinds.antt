@@ -5,7 +5,7 @@ use mathlib.Core.List.{List, []}
 use mathlib.Core.Path.{_≡_}
 use Prim.Native.Nat.{ℕ}
 use Rattle.lists.specs.Lists.{same}
-use Rattle.figures.specs.Keywords.{short, codeOf}
+use Rattle.figures.specs.Codes.{short, codeOf}
 use Rattle.message.specs.declared.Record.{Record}
 use Rattle.grammar.specs.States.State.{atEnd}
 use Rattle.reader_sections.specs.Going.{Ends}

@@ -6,7 +6,7 @@ use Prim.Native.Nat.{ℕ}
 use lib.ListN.{getD}
 use Rattle.lists.specs.Choice.{pick, either}
 use Rattle.lists.specs.Lists.{same}
-use Rattle.figures.specs.Keywords.{codeOf}
+use Rattle.figures.specs.Codes.{codeOf}
 use Rattle.message.specs.declared.Extent.{Extent}
 use Rattle.grammar.specs.Numbers.{locationPart}
 use Rattle.grammar.specs.States.{Site, Placing}

@@ -4,7 +4,7 @@ ghost use mathlib.Core.Path.{_≡_};
 ghost use Prim.Native.Nat.{_≤_, _<_};
 ghost use lib.ListN.{length};
 ghost use Rattle.lists.specs.Lists.{part};
-ghost use Rattle.figures.specs.Keywords.{codeOf};
+ghost use Rattle.figures.specs.Codes.{codeOf};
 ghost use Rattle.reader_sections.specs.Going.{WordAt};
 ghost use Rattle.reader_sections.specs.Leading.{Stands, Before, Judged, TakesFixed, TakesLong, MayTake, Closes};
 use figures::code;

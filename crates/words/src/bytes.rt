@@ -1,27 +1,28 @@
 // Tests of one byte.
 ghost use mathlib.Core.Path.{_≡_};
 ghost use Rattle.words.specs.Bytes.{blank, allowed};
-use lists::both;
+use crate::is_digit;
+use crate::is_letter;
 use lists::either;
 
 pub(crate) fn is_blank(x: u8) -> bool
     ensures { λ r. ⌜ r ≡ blank x ⌝ }
 {
-    either(x == 32, either(x == 13, x == 10))
+    either(x == b' ', either(x == b'\r', x == b'\n'))
 }
 
 pub(crate) fn is_allowed(x: u8) -> bool
     ensures { λ r. ⌜ r ≡ allowed x ⌝ }
 {
-    let letter = both(65 <= x, x <= 90);
-    let digit = both(48 <= x, x <= 57);
-    let stroke = either(x == 47, either(x == 45, either(x == 46, x == 44)));
-    let bracket = either(x == 40, x == 41);
+    let letter = is_letter(x);
+    let digit = is_digit(x);
+    let point = either(x == b'/', either(x == b'-', either(x == b'.', x == b',')));
+    let bracket = either(x == b'(', x == b')');
     either(
         letter,
         either(
             digit,
-            either(is_blank(x), either(stroke, either(bracket, x == 61))),
+            either(is_blank(x), either(point, either(bracket, x == b'='))),
         ),
     )
 }

@@ -1,11 +1,14 @@
 // Bytes to words: refusal numbers 1 to 3 with their places, and the word at a place of the text before `=`.
 ghost use mathlib.Core.Path.{_≡_};
 ghost use Prim.Native.Nat.{_+_};
+ghost use Rattle.words.specs.Bytes.{letter, digit};
 ghost use Rattle.words.specs.Check.{checkOf};
 ghost use Rattle.words.specs.Words.{spanOf};
 
 mod bytes;
 mod walks;
+
+use lists::both;
 
 // The refusal number with its place, or number 0 with the place of the first `=`.
 pub struct Checked {
@@ -19,6 +22,21 @@ pub struct Span {
     pub end: usize,
 }
 
+pub fn is_letter(x: u8) -> bool
+    ensures { λ r. ⌜ r ≡ letter x ⌝ }
+{
+    both(b'A' <= x, x <= b'Z')
+}
+
+pub fn is_digit(x: u8) -> bool
+    ensures { λ r. ⌜ r ≡ digit x ⌝ }
+{
+    both(b'0' <= x, x <= b'9')
+}
+
+// The most bytes that a bulletin may have.
+const MOST_BYTES: usize = 2048;
+
 // Can words be read from these bytes? The tests go in the paper's order, each its own walk.
 pub fn check(bulletin: &[u8]) -> Checked
     ensures { λ r. ⌜ r ≡ checkOf (now (bulletin .entry)) ⌝ }
@@ -30,7 +48,7 @@ pub fn check(bulletin: &[u8]) -> Checked
             place: 0,
         };
     }
-    if 2048 < length {
+    if MOST_BYTES < length {
         return Checked {
             number: 1,
             place: 0,

@@ -23,7 +23,7 @@ pub(crate) fn first_equals(b: &[u8]) -> usize
 {
     let mut at = 0;
     while at < b.len() {
-        if b[at] == 61 {
+        if b[at] == b'=' {
             return at;
         }
         at += 1;

@@ -13,8 +13,7 @@ use Rattle.lists.specs.Choice.{both}
 use Rattle.lists.specs.Lists.{same}
 use Rattle.lists.proofs.Choice.{by, both-left, both-right}
 use Rattle.lists.proofs.Lists.{same-is}
-use Rattle.figures.specs.Keywords.{wordOf}
-use Rattle.figures.specs.Tables.{numbered}
+use Rattle.figures.specs.Tables.{wordOf, numbered}
 
 pub no-word : (table : List (List ℕ)) (n : ℕ) → length table ≤ n → wordOf table n ≡ []
 no-word table n h = List·getD-eq-default table [] h

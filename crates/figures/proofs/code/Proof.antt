@@ -4,7 +4,7 @@ use Prim.Native.Nat.{_-_, _<_}
 use native.Mathlib.Omega.{arith}
 use lib.ListN.{length, getD}
 use borrow.Author.Tests.{lt-ltb}
-use Rattle.figures.specs.Keywords.{byte, codeOf}
+use Rattle.figures.specs.Codes.{byte, codeOf}
 use Rattle.figures.proofs.Reading.{Reading, begins, fits, goes, ends, too-long}
 use Rattle.figures.proofs.code.Statement.{statement}
 use Rattle.figures.proofs.code.Tie as tie

@@ -15,7 +15,7 @@ use Rattle.figures.proofs.figures.Statement.{statement}
 use Rattle.figures.proofs.figures.Tie as tie
 use Rattle.figures.proofs.figures.Reads as reads
 use Rattle.figures.proofs.figures.Lts as lts
-use Rattle.figures.proofs.is_digit.Reads as is-digit-reads
+use Rattle.words.proofs.is_digit.Reads as is-digit-reads
 
 abbrev Inv-loop : tie.InvT-loop
 Inv-loop w n₀ i₀ n i = Reading 10 0 5 digit w (map figure w) n i

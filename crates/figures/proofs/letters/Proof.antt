@@ -15,7 +15,7 @@ use Rattle.figures.proofs.letters.Statement.{statement}
 use Rattle.figures.proofs.letters.Tie as tie
 use Rattle.figures.proofs.letters.Reads as reads
 use Rattle.figures.proofs.letters.Lts as lts
-use Rattle.figures.proofs.is_letter.Reads as is-letter-reads
+use Rattle.words.proofs.is_letter.Reads as is-letter-reads
 
 abbrev Inv-loop : tie.InvT-loop
 Inv-loop w k n₀ i₀ n i = Reading 256 0 4 letter w w n i

@@ -3,13 +3,13 @@ use borrow.Author.Needs.{needs}
 use borrow.Author.Tests.{eq-eqb, ne-eqb}
 use Rattle.groups.specs.Groups.{groupOf, goodGroup, noGroup}
 use Rattle.groups.proofs.GroupLaws.{group-made}
-use Rattle.figures.proofs.Kept.{kept-untested, kept-good, kept-bad}
+use Rattle.figures.proofs.ReadsLaws.{untested, if-good-yes, if-good-no}
 use Rattle.groups.proofs.group_word.Statement.{statement}
 use Rattle.groups.proofs.group_word.Tie as tie
 
 returns : tie.Need-returns
 unfolding groupOf
-returns c = kept-untested _ noGroup (ne-eqb _ 6 (c .if1 .taken))
+returns c = untested _ noGroup (ne-eqb _ 6 (c .if1 .taken))
 
 sub-two : tie.Need-sub-two
 sub-two c = search needs
@@ -53,7 +53,7 @@ good-group-requires c κs = search needs
 returns-2 : tie.Need-returns-2
 unfolding groupOf
 returns-2 c =
-    kept-good goodGroup noGroup
+    if-good-yes goodGroup noGroup
     (eq-eqb _ 6 (c .before .before .before .before .before .before .before .before .if1 .left))
     (group-made (c .before .before .before .before .before .before .two .ensures) (c .before .before .before .before .two2 .ensures) (c .before .before .two3 .ensures))
     (c .before .good-group .ensures)
@@ -62,7 +62,7 @@ returns-2 c =
 returns-3 : tie.Need-returns-3
 unfolding groupOf
 returns-3 c =
-    kept-bad goodGroup noGroup
+    if-good-no goodGroup noGroup
     (eq-eqb _ 6 (c .before .before .before .before .before .before .before .before .if1 .left))
     (group-made (c .before .before .before .before .before .before .two .ensures) (c .before .before .before .before .two2 .ensures) (c .before .before .two3 .ensures))
     (c .before .good-group .ensures)

@@ -6,13 +6,13 @@ use borrow.Author.Tests.{eq-eqb, ne-eqb}
 use Rattle.lists.proofs.Choice.{both-true, both-false-left, both-false-right}
 use Rattle.groups.specs.Groups.{periodOf, goodPeriod, noPeriod}
 use Rattle.groups.proofs.GroupLaws.{period-made}
-use Rattle.figures.proofs.Kept.{kept-untested, kept-good, kept-bad}
+use Rattle.figures.proofs.ReadsLaws.{untested, if-good-yes, if-good-no}
 use Rattle.groups.proofs.period_word.Statement.{statement}
 use Rattle.groups.proofs.period_word.Tie as tie
 
 returns : tie.Need-returns
 unfolding periodOf
-returns c = kept-untested _ noPeriod (both-false-left _ (ne-eqb _ 13 (c .if1 .taken)))
+returns c = untested _ noPeriod (both-false-left _ (ne-eqb _ 13 (c .if1 .taken)))
 
 shared-slice-read-if2 : tie.Need-shared-slice-read-if2
 shared-slice-read-if2 c = search needs
@@ -20,7 +20,7 @@ shared-slice-read-if2 c = search needs
 returns-2 : tie.Need-returns-2
 unfolding periodOf
 returns-2 c =
-    kept-untested _ noPeriod
+    untested _ noPeriod
     (both-false-right (eqb (length (c .before .before .before .before .args .w .now)) 13) (ne-eqb _ _ (c .if2 .taken)))
 
 sub-group-word : tie.Need-sub-group-word
@@ -53,7 +53,7 @@ good-period-requires c κs = search needs
 returns-3 : tie.Need-returns-3
 unfolding periodOf
 returns-3 c =
-    kept-good goodPeriod noPeriod
+    if-good-yes goodPeriod noPeriod
     (both-true (eq-eqb _ 13 (c .before .before .before .before .before .before .before .before .if1 .left)) (eq-eqb _ _ (c .before .before .before .before .before .before .if2 .left)))
     (period-made (c .before .before .before .before .group-word .ensures) (c .before .before .group-word2 .ensures))
     (c .before .good-period .ensures)
@@ -62,7 +62,7 @@ returns-3 c =
 returns-4 : tie.Need-returns-4
 unfolding periodOf
 returns-4 c =
-    kept-bad goodPeriod noPeriod
+    if-good-no goodPeriod noPeriod
     (both-true (eq-eqb _ 13 (c .before .before .before .before .before .before .before .before .if1 .left)) (eq-eqb _ _ (c .before .before .before .before .before .before .if2 .left)))
     (period-made (c .before .before .before .before .group-word .ensures) (c .before .before .group-word2 .ensures))
     (c .before .good-period .ensures)

@@ -6,13 +6,13 @@ use borrow.Author.Tests.{eq-eqb, ne-eqb}
 use Rattle.lists.proofs.Choice.{both-true, both-false-left, both-false-right}
 use Rattle.groups.specs.Groups.{timeOf, goodTime, noTime}
 use Rattle.groups.proofs.GroupLaws.{time-made}
-use Rattle.figures.proofs.Kept.{kept-untested, kept-good, kept-bad}
+use Rattle.figures.proofs.ReadsLaws.{untested, if-good-yes, if-good-no}
 use Rattle.groups.proofs.time_word.Statement.{statement}
 use Rattle.groups.proofs.time_word.Tie as tie
 
 returns : tie.Need-returns
 unfolding timeOf
-returns c = kept-untested _ noTime (both-false-left _ (ne-eqb _ 5 (c .if1 .taken)))
+returns c = untested _ noTime (both-false-left _ (ne-eqb _ 5 (c .if1 .taken)))
 
 shared-slice-read-if2 : tie.Need-shared-slice-read-if2
 shared-slice-read-if2 c = search needs
@@ -20,7 +20,7 @@ shared-slice-read-if2 c = search needs
 returns-2 : tie.Need-returns-2
 unfolding timeOf
 returns-2 c =
-    kept-untested _ noTime
+    untested _ noTime
     (both-false-right (eqb (length (c .before .before .before .before .args .w .now)) 5) (ne-eqb _ _ (c .if2 .taken)))
 
 sub-two : tie.Need-sub-two
@@ -53,7 +53,7 @@ good-time-requires c κs = search needs
 returns-3 : tie.Need-returns-3
 unfolding timeOf
 returns-3 c =
-    kept-good goodTime noTime
+    if-good-yes goodTime noTime
     (both-true (eq-eqb _ 5 (c .before .before .before .before .before .before .before .before .if1 .left)) (eq-eqb _ _ (c .before .before .before .before .before .before .if2 .left)))
     (time-made (c .before .before .before .before .two .ensures) (c .before .before .two2 .ensures))
     (c .before .good-time .ensures)
@@ -62,7 +62,7 @@ returns-3 c =
 returns-4 : tie.Need-returns-4
 unfolding timeOf
 returns-4 c =
-    kept-bad goodTime noTime
+    if-good-no goodTime noTime
     (both-true (eq-eqb _ 5 (c .before .before .before .before .before .before .before .before .if1 .left)) (eq-eqb _ _ (c .before .before .before .before .before .before .if2 .left)))
     (time-made (c .before .before .before .before .two .ensures) (c .before .before .two2 .ensures))
     (c .before .good-time .ensures)

@@ -6,7 +6,7 @@ use borrow.Author.Tests.{eq-eqb, ne-eqb}
 use borrow.Author.Needs.{needs}
 use Rattle.headings.specs.Headings.{goodCorrection}
 use Rattle.headings.specs.Headings.{correctionOf}
-use Rattle.figures.proofs.Kept.{kept-good, kept-bad}
+use Rattle.figures.proofs.ReadsLaws.{if-good-yes, if-good-no}
 use Rattle.headings.proofs.HeadingLaws.{correction-passes}
 use Rattle.headings.proofs.correction_word.Statement.{statement}
 use Rattle.headings.proofs.correction_word.Tie as tie
@@ -37,11 +37,11 @@ good-correction-requires c κs = search needs
 
 returns-4 : tie.Need-returns-4
 unfolding correctionOf
-returns-4 c = kept-good goodCorrection 0 (correction-passes (c .before .before .before .before .before .before .before .before .before .args .w .now) (omega arith) (omega arith) (omega arith)) refl (c .before .good-correction .ensures) (c .if4 .taken)
+returns-4 c = if-good-yes goodCorrection 0 (correction-passes (c .before .before .before .before .before .before .before .before .before .args .w .now) (omega arith) (omega arith) (omega arith)) refl (c .before .good-correction .ensures) (c .if4 .taken)
 
 returns-5 : tie.Need-returns-5
 unfolding correctionOf
-returns-5 c = kept-bad goodCorrection 0 (correction-passes (c .before .before .before .before .before .before .before .before .before .args .w .now) (omega arith) (omega arith) (omega arith)) refl (c .before .good-correction .ensures) (c .if4 .left)
+returns-5 c = if-good-no goodCorrection 0 (correction-passes (c .before .before .before .before .before .before .before .before .before .args .w .now) (omega arith) (omega arith) (omega arith)) refl (c .before .good-correction .ensures) (c .if4 .left)
 
 pub correction-word-spec : {M : Type 1} → statement M
 correction-word-spec =

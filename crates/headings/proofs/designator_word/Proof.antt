@@ -6,7 +6,7 @@ use borrow.Author.Tests.{ne-eqb}
 use borrow.Author.Needs.{needs}
 use Rattle.headings.specs.Headings.{goodDesignator, noDesignator}
 use Rattle.headings.specs.Headings.{designatorOf}
-use Rattle.figures.proofs.Kept.{kept-good, kept-bad}
+use Rattle.figures.proofs.ReadsLaws.{if-good-yes, if-good-no}
 use Rattle.headings.proofs.designator_word.Statement.{statement}
 use Rattle.headings.proofs.designator_word.Tie as tie
 
@@ -55,11 +55,11 @@ good-designator-requires c κs = search needs
 
 returns-2 : tie.Need-returns-2
 unfolding designatorOf
-returns-2 c = kept-good goodDesignator noDesignator (eq-eqb (length (c .before .before .before .before .before .before .before .before .before .before .args .w .now)) 6 (omega arith)) (rw (c .before .before .before .before .before .before .kind-of .ensures, c .before .before .before .before .letters .ensures, c .before .before .two .ensures)) (c .before .good-designator .ensures) (c .if2 .taken)
+returns-2 c = if-good-yes goodDesignator noDesignator (eq-eqb (length (c .before .before .before .before .before .before .before .before .before .before .args .w .now)) 6 (omega arith)) (rw (c .before .before .before .before .before .before .kind-of .ensures, c .before .before .before .before .letters .ensures, c .before .before .two .ensures)) (c .before .good-designator .ensures) (c .if2 .taken)
 
 returns-3 : tie.Need-returns-3
 unfolding designatorOf
-returns-3 c = kept-bad goodDesignator noDesignator (eq-eqb (length (c .before .before .before .before .before .before .before .before .before .before .args .w .now)) 6 (omega arith)) (rw (c .before .before .before .before .before .before .kind-of .ensures, c .before .before .before .before .letters .ensures, c .before .before .two .ensures)) (c .before .good-designator .ensures) (c .if2 .left)
+returns-3 c = if-good-no goodDesignator noDesignator (eq-eqb (length (c .before .before .before .before .before .before .before .before .before .before .args .w .now)) 6 (omega arith)) (rw (c .before .before .before .before .before .before .kind-of .ensures, c .before .before .before .before .letters .ensures, c .before .before .two .ensures)) (c .before .good-designator .ensures) (c .if2 .left)
 
 pub designator-word-spec : {M : Type 1} → statement M
 designator-word-spec =

@@ -4,7 +4,7 @@ use lib.Dec.{lit<}
 use borrow.Author.Needs.{needs}
 use Rattle.lists.specs.Lists.{allOf}
 use Rattle.lists.specs.Base.{worthAfter}
-use Rattle.figures.specs.Keywords.{codeOf}
+use Rattle.figures.specs.Codes.{codeOf}
 use Rattle.headings.specs.Headings.{typeWords}
 use Rattle.headings.proofs.HeadingLaws.{type-at, type-none}
 use Rattle.headings.proofs.kind_of.Statement.{statement}

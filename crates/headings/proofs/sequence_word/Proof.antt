@@ -7,7 +7,7 @@ use borrow.Author.Needs.{needs}
 use Rattle.lists.proofs.Choice.{both-true}
 use Rattle.headings.specs.Sequences.{goodSequence, noSequence, sequenceOf}
 use Rattle.headings.proofs.SequenceLaws.{with-letter, without-letter}
-use Rattle.figures.proofs.Kept.{kept-good, kept-bad}
+use Rattle.figures.proofs.ReadsLaws.{if-good-yes, if-good-no}
 use Rattle.headings.proofs.sequence_word.Statement.{statement}
 use Rattle.headings.proofs.sequence_word.Tie as tie
 
@@ -37,36 +37,36 @@ part-three-end c = search needs
 three-requires : tie.Need-three-requires
 three-requires c κs = search needs
 
-cast-t17 : tie.Need-cast-t17
-cast-t17 c = search needs
+cast-digits : tie.Need-cast-digits
+cast-digits c = search needs
 
 good-sequence-requires : tie.Need-good-sequence-requires
 good-sequence-requires c κs = search needs
 
 returns-3 : tie.Need-returns-3
 unfolding sequenceOf
-returns-3 c = kept-good goodSequence noSequence (both-true (le-leb 1 (length (c .before .before .before .before .before .before .before .before .before .before .args .w .now)) (omega arith)) (le-leb (length (c .before .before .before .before .before .before .before .before .before .before .args .w .now)) 3 (omega arith))) (with-letter (c .before .before .before .before .before .before .before .before .before .before .args .w .now) _ (sym (c .before .before .before .before .before .is-letter .ensures) ∙ c .before .before .before .before .if3 .taken) (c .before .before .three .ensures)) (c .before .good-sequence .ensures) (c .if4 .taken)
+returns-3 c = if-good-yes goodSequence noSequence (both-true (le-leb 1 (length (c .before .before .before .before .before .before .before .before .before .before .args .w .now)) (omega arith)) (le-leb (length (c .before .before .before .before .before .before .before .before .before .before .args .w .now)) 3 (omega arith))) (with-letter (c .before .before .before .before .before .before .before .before .before .before .args .w .now) _ (sym (c .before .before .before .before .before .is-letter .ensures) ∙ c .before .before .before .before .if3 .taken) (c .before .before .three .ensures)) (c .before .good-sequence .ensures) (c .if4 .taken)
 
 returns-4 : tie.Need-returns-4
 unfolding sequenceOf
-returns-4 c = kept-bad goodSequence noSequence (both-true (le-leb 1 (length (c .before .before .before .before .before .before .before .before .before .before .args .w .now)) (omega arith)) (le-leb (length (c .before .before .before .before .before .before .before .before .before .before .args .w .now)) 3 (omega arith))) (with-letter (c .before .before .before .before .before .before .before .before .before .before .args .w .now) _ (sym (c .before .before .before .before .before .is-letter .ensures) ∙ c .before .before .before .before .if3 .taken) (c .before .before .three .ensures)) (c .before .good-sequence .ensures) (c .if4 .left)
+returns-4 c = if-good-no goodSequence noSequence (both-true (le-leb 1 (length (c .before .before .before .before .before .before .before .before .before .before .args .w .now)) (omega arith)) (le-leb (length (c .before .before .before .before .before .before .before .before .before .before .args .w .now)) 3 (omega arith))) (with-letter (c .before .before .before .before .before .before .before .before .before .before .args .w .now) _ (sym (c .before .before .before .before .before .is-letter .ensures) ∙ c .before .before .before .before .if3 .taken) (c .before .before .three .ensures)) (c .before .good-sequence .ensures) (c .if4 .left)
 
 three-requires-2 : tie.Need-three-requires-2
 three-requires-2 c κs = search needs
 
-cast-t11 : tie.Need-cast-t11
-cast-t11 c = search needs
+cast-digits-2 : tie.Need-cast-digits-2
+cast-digits-2 c = search needs
 
 good-sequence-requires-2 : tie.Need-good-sequence-requires-2
 good-sequence-requires-2 c κs = search needs
 
 returns-5 : tie.Need-returns-5
 unfolding sequenceOf
-returns-5 c = kept-good goodSequence noSequence (both-true (le-leb 1 (length (c .before .before .before .before .before .before .before .before .before .args .w .now)) (omega arith)) (le-leb (length (c .before .before .before .before .before .before .before .before .before .args .w .now)) 3 (omega arith))) (without-letter (c .before .before .before .before .before .before .before .before .before .args .w .now) _ (sym (c .before .before .before .before .is-letter .ensures) ∙ c .before .before .before .if3 .left) (c .before .before .three2 .ensures)) (c .before .good-sequence2 .ensures) (c .if5 .taken)
+returns-5 c = if-good-yes goodSequence noSequence (both-true (le-leb 1 (length (c .before .before .before .before .before .before .before .before .before .args .w .now)) (omega arith)) (le-leb (length (c .before .before .before .before .before .before .before .before .before .args .w .now)) 3 (omega arith))) (without-letter (c .before .before .before .before .before .before .before .before .before .args .w .now) _ (sym (c .before .before .before .before .is-letter .ensures) ∙ c .before .before .before .if3 .left) (c .before .before .three2 .ensures)) (c .before .good-sequence2 .ensures) (c .if5 .taken)
 
 returns-6 : tie.Need-returns-6
 unfolding sequenceOf
-returns-6 c = kept-bad goodSequence noSequence (both-true (le-leb 1 (length (c .before .before .before .before .before .before .before .before .before .args .w .now)) (omega arith)) (le-leb (length (c .before .before .before .before .before .before .before .before .before .args .w .now)) 3 (omega arith))) (without-letter (c .before .before .before .before .before .before .before .before .before .args .w .now) _ (sym (c .before .before .before .before .is-letter .ensures) ∙ c .before .before .before .if3 .left) (c .before .before .three2 .ensures)) (c .before .good-sequence2 .ensures) (c .if5 .left)
+returns-6 c = if-good-no goodSequence noSequence (both-true (le-leb 1 (length (c .before .before .before .before .before .before .before .before .before .args .w .now)) (omega arith)) (le-leb (length (c .before .before .before .before .before .before .before .before .before .args .w .now)) 3 (omega arith))) (without-letter (c .before .before .before .before .before .before .before .before .before .args .w .now) _ (sym (c .before .before .before .before .is-letter .ensures) ∙ c .before .before .before .if3 .left) (c .before .before .three2 .ensures)) (c .before .good-sequence2 .ensures) (c .if5 .left)
 
 pub sequence-word-spec : {M : Type 1} → statement M
 sequence-word-spec =
@@ -80,12 +80,12 @@ sequence-word-spec =
     part-three-start
     part-three-end
     three-requires
-    cast-t17
+    cast-digits
     good-sequence-requires
     returns-3
     returns-4
     three-requires-2
-    cast-t11
+    cast-digits-2
     good-sequence-requires-2
     returns-5
     returns-6)

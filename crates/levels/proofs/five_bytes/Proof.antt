@@ -4,14 +4,14 @@ use mathlib.Core.Path.{_≡_}
 use borrow.Author.Needs.{needs}
 use Rattle.lists.specs.Lists.{part, same}
 use Rattle.lists.specs.Text.{bytes}
-use Rattle.figures.proofs.Codes.{same-yes, same-no}
+use Rattle.figures.proofs.CodeLaws.{same-yes, same-no}
 use Rattle.levels.specs.Levels.{goodLevelWord}
-use Rattle.levels.proofs.Codes.{coded-fl}
+use Rattle.vocabulary.proofs.FixedWords.{fixed-fl}
 use Rattle.levels.proofs.five_bytes.Statement.{statement}
 use Rattle.levels.proofs.five_bytes.Tie as tie
 
 is-flight : (c : tie.Else1) → same (part 0 2 (c .before .before .before .before .args .w .now)) (bytes "FL") ≡ true
-is-flight c = same-yes coded-fl _ (c .before .code .ensures) (c .if1 .left)
+is-flight c = same-yes fixed-fl _ (c .before .code .ensures) (c .if1 .left)
 
 sub-code : tie.Need-sub-code
 sub-code c = search needs
@@ -26,7 +26,7 @@ code-requires : tie.Need-code-requires
 code-requires c κs = search needs
 
 returns : tie.Need-returns
-returns c = rw (same-no coded-fl _ (c .before .code .ensures) (c .if1 .taken))
+returns c = rw (same-no fixed-fl _ (c .before .code .ensures) (c .if1 .taken))
 
 sub-figures : tie.Need-sub-figures
 sub-figures c = search needs

@@ -1,7 +1,7 @@
 -- `nine_bytes` meets its contract: its test is that of the definition. Assumes nothing.
 use borrow.Author.Needs.{needs}
-use Rattle.figures.proofs.Codes.{same-yes, same-no}
-use Rattle.levels.proofs.Codes.{coded-sfc}
+use Rattle.figures.proofs.CodeLaws.{same-yes, same-no}
+use Rattle.vocabulary.proofs.FixedWords.{fixed-surface}
 use Rattle.levels.proofs.nine_bytes.Statement.{statement}
 use Rattle.levels.proofs.nine_bytes.Tie as tie
 
@@ -24,10 +24,10 @@ band-nine-requires : tie.Need-band-nine-requires
 band-nine-requires c κs = search needs
 
 returns : tie.Need-returns
-returns c = rw (same-yes coded-sfc _ (c .before .before .code .ensures) (c .before .if1 .taken)) (c .surface-nine .ensures)
+returns c = rw (same-yes fixed-surface _ (c .before .before .code .ensures) (c .before .if1 .taken)) (c .surface-nine .ensures)
 
 returns-2 : tie.Need-returns-2
-returns-2 c = rw (same-no coded-sfc _ (c .before .before .code .ensures) (c .before .if1 .left)) (c .band-nine .ensures)
+returns-2 c = rw (same-no fixed-surface _ (c .before .before .code .ensures) (c .before .if1 .left)) (c .band-nine .ensures)
 
 pub nine-bytes-spec : {M : Type 1} → statement M
 nine-bytes-spec =

@@ -5,17 +5,17 @@ use borrow.Author.Tests.{eq-eqb, ne-eqb}
 use borrow.Author.Needs.{needs}
 use Rattle.lists.specs.Lists.{part, same}
 use Rattle.lists.specs.Text.{bytes}
-use Rattle.figures.proofs.Codes.{same-yes, same-no}
+use Rattle.figures.proofs.CodeLaws.{same-yes, same-no}
 use Rattle.levels.specs.Levels.{goodLevelWord}
-use Rattle.levels.proofs.Codes.{coded-fl}
+use Rattle.vocabulary.proofs.FixedWords.{fixed-fl}
 use Rattle.levels.proofs.surface_nine.Statement.{statement}
 use Rattle.levels.proofs.surface_nine.Tie as tie
 
 is-flight : (c : tie.Then1) → same (part 4 6 (c .before .before .before .before .args .w .now)) (bytes "FL") ≡ true
-is-flight c = same-yes coded-fl _ (c .before .code .ensures) (c .if1 .taken)
+is-flight c = same-yes fixed-fl _ (c .before .code .ensures) (c .if1 .taken)
 
 no-flight : (c : tie.Else1) → same (part 4 6 (c .before .before .before .before .args .w .now)) (bytes "FL") ≡ false
-no-flight c = same-no coded-fl _ (c .before .code .ensures) (c .if1 .left)
+no-flight c = same-no fixed-fl _ (c .before .code .ensures) (c .if1 .left)
 
 sub-code : tie.Need-sub-code
 sub-code c = search needs

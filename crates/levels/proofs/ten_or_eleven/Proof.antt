@@ -11,24 +11,24 @@ use Rattle.lists.specs.Choice.{both}
 use Rattle.lists.specs.Text.{bytes}
 use Rattle.lists.proofs.Parts.{part-rest}
 use Rattle.words.specs.Bytes.{between}
-use Rattle.figures.specs.Keywords.{codeOf}
-use Rattle.figures.proofs.Codes.{same-yes, same-no}
+use Rattle.figures.specs.Codes.{codeOf}
+use Rattle.figures.proofs.CodeLaws.{same-yes, same-no}
 use Rattle.levels.specs.Levels.{feetFigures}
-use Rattle.levels.proofs.Codes.{coded-ft, coded-sfc}
+use Rattle.vocabulary.proofs.FixedWords.{fixed-ft, fixed-surface}
 use Rattle.levels.proofs.ten_or_eleven.Statement.{statement}
 use Rattle.levels.proofs.ten_or_eleven.Tie as tie
 
 is-surface : (c : tie.Else1) → same (part 0 4 (c .before .before .before .before .args .w .now)) (bytes "SFC/") ≡ true
-is-surface c = same-yes coded-sfc _ (c .before .code .ensures) (c .if1 .left)
+is-surface c = same-yes fixed-surface _ (c .before .code .ensures) (c .if1 .left)
 
 at-end : (c : tie.After-code2) → c .code2 .result ≡ codeOf (drop (length (c .before .before .before .before .before .before .args .w .now) - 2) (c .before .before .before .before .before .before .args .w .now))
 at-end c = c .code2 .ensures ∙ ap codeOf (part-rest (c .before .before .before .before .before .before .args .w .now) (length (c .before .before .before .before .before .before .args .w .now) - 2))
 
 is-feet : (c : tie.Else2) → same (drop (length (c .before .before .before .before .before .before .before .args .w .now) - 2) (c .before .before .before .before .before .before .before .args .w .now)) (bytes "FT") ≡ true
-is-feet c = same-yes coded-ft _ (at-end (c .before)) (c .if2 .left)
+is-feet c = same-yes fixed-ft _ (at-end (c .before)) (c .if2 .left)
 
 no-feet : (c : tie.Then2) → same (drop (length (c .before .before .before .before .before .before .before .args .w .now) - 2) (c .before .before .before .before .before .before .before .args .w .now)) (bytes "FT") ≡ false
-no-feet c = same-no coded-ft _ (at-end (c .before)) (c .if2 .taken)
+no-feet c = same-no fixed-ft _ (at-end (c .before)) (c .if2 .taken)
 
 test : (c : tie.After-both) → both (between 1 99999 (c .before .before .before .figures .result)) (eqb (feetFigures (c .before .before .before .figures .result)) (length (c .before .before .before .before .before .before .before .before .before .before .before .before .args .w .now) - 6)) ≡ c .both .result
 test c =
@@ -51,7 +51,7 @@ code-requires : tie.Need-code-requires
 code-requires c κs = search needs
 
 returns : tie.Need-returns
-returns c = rw (same-no coded-sfc _ (c .before .code .ensures) (c .if1 .taken))
+returns c = rw (same-no fixed-surface _ (c .before .code .ensures) (c .if1 .taken))
 
 sub-code-2 : tie.Need-sub-code-2
 sub-code-2 c = search needs
@@ -86,6 +86,9 @@ is-between-requires c κs = search needs
 feet-figures-requires : tie.Need-feet-figures-requires
 feet-figures-requires c κs = search needs
 
+cast-both : tie.Need-cast-both
+cast-both c = search needs
+
 sub-both : tie.Need-sub-both
 sub-both c = search needs
 
@@ -119,6 +122,7 @@ ten-or-eleven-spec =
     figures-requires
     is-between-requires
     feet-figures-requires
+    cast-both
     sub-both
     both-requires
     returns-3

@@ -6,7 +6,7 @@ use borrow.Author.Needs.{needs}
 use Rattle.lists.specs.Lists.{allOf}
 use Rattle.lists.specs.Base.{worthAfter}
 use Rattle.lists.proofs.Lists.{index-within}
-use Rattle.figures.specs.Keywords.{codeOf}
+use Rattle.figures.specs.Codes.{codeOf}
 use Rattle.motions.specs.Motions.{compassWords}
 use Rattle.motions.proofs.MotionLaws.{compass-found}
 use Rattle.motions.proofs.compass_word.Statement.{statement}

@@ -4,7 +4,7 @@ use lib.Dec.{lit<}
 use borrow.Author.Needs.{needs}
 use Rattle.lists.specs.Lists.{allOf}
 use Rattle.lists.specs.Base.{worthAfter}
-use Rattle.figures.specs.Keywords.{codeOf}
+use Rattle.figures.specs.Codes.{codeOf}
 use Rattle.motions.specs.Motions.{intensityWords}
 use Rattle.motions.proofs.MotionLaws.{intensity-at, intensity-none}
 use Rattle.motions.proofs.intensity_word.Statement.{statement}

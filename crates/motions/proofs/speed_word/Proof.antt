@@ -5,7 +5,7 @@ use native.Mathlib.Omega.{arith}
 use borrow.Author.Needs.{needs}
 use Rattle.motions.specs.Speeds.{goodSpeed, noSpeed, speedOf}
 use Rattle.motions.proofs.MotionLaws.{speed-short, speed-parts}
-use Rattle.figures.proofs.Kept.{kept-good, kept-bad}
+use Rattle.figures.proofs.ReadsLaws.{if-good-yes, if-good-no}
 use Rattle.motions.proofs.speed_word.Statement.{statement}
 use Rattle.motions.proofs.speed_word.Tie as tie
 
@@ -41,11 +41,11 @@ good-speed-requires c κs = search needs
 
 returns-2 : tie.Need-returns-2
 unfolding speedOf
-returns-2 c = kept-good goodSpeed noSpeed {test = true} refl (speed-parts (c .before .before .before .before .before .before .before .before .args .w .now) _ _ (c .before .before .before .before .two .ensures) (c .before .before .unit-of .ensures)) (c .before .good-speed .ensures) (c .if2 .taken)
+returns-2 c = if-good-yes goodSpeed noSpeed {test = true} refl (speed-parts (c .before .before .before .before .before .before .before .before .args .w .now) _ _ (c .before .before .before .before .two .ensures) (c .before .before .unit-of .ensures)) (c .before .good-speed .ensures) (c .if2 .taken)
 
 returns-3 : tie.Need-returns-3
 unfolding speedOf
-returns-3 c = kept-bad goodSpeed noSpeed {test = true} refl (speed-parts (c .before .before .before .before .before .before .before .before .args .w .now) _ _ (c .before .before .before .before .two .ensures) (c .before .before .unit-of .ensures)) (c .before .good-speed .ensures) (c .if2 .left)
+returns-3 c = if-good-no goodSpeed noSpeed {test = true} refl (speed-parts (c .before .before .before .before .before .before .before .before .args .w .now) _ _ (c .before .before .before .before .two .ensures) (c .before .before .unit-of .ensures)) (c .before .good-speed .ensures) (c .if2 .left)
 
 pub speed-word-spec : {M : Type 1} → statement M
 speed-word-spec =

@@ -9,7 +9,8 @@ use lib.Dec.{eqb, lit<}
 use Rattle.lists.specs.Base.{worthAfter}
 use Rattle.lists.specs.Lists.{allOf, same}
 use Rattle.lists.specs.Text.{bytes}
-use Rattle.figures.specs.Keywords.{codeOf, distinct}
+use Rattle.figures.specs.Codes.{codeOf}
+use Rattle.figures.specs.Tables.{distinct}
 use Rattle.figures.proofs.TableLaws.{number-at, number-none}
 use Rattle.names.specs.Names.{closingWords}
 use Rattle.names.proofs.closing_word.Statement.{statement}

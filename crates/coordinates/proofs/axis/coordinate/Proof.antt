@@ -53,8 +53,8 @@ part-two-end c = search needs
 two-requires : tie.Need-two-requires
 two-requires c κs = search needs
 
-add-t19 : tie.Need-add-t19
-add-t19 c = search needs
+add-digits : tie.Need-add-digits
+add-digits c = search needs
 
 good-requires-2 : tie.Need-good-requires-2
 good-requires-2 c κs = search needs
@@ -86,7 +86,7 @@ coordinate-spec =
     part-two-start
     part-two-end
     two-requires
-    add-t19
+    add-digits
     good-requires-2
     keep-requires-2
     returns-4)

@@ -4,11 +4,11 @@ use Rattle.words.specs.Bytes.{allowed}
 use Rattle.words.proofs.bytes.is_allowed.Statement.{statement}
 use Rattle.words.proofs.bytes.is_allowed.Tie as tie
 
-both-requires : tie.Need-both-requires
-both-requires c κs = search needs
+is-letter-requires : tie.Need-is-letter-requires
+is-letter-requires c κs = search needs
 
-both-requires-2 : tie.Need-both-requires-2
-both-requires-2 c κs = search needs
+is-digit-requires : tie.Need-is-digit-requires
+is-digit-requires c κs = search needs
 
 either-requires : tie.Need-either-requires
 either-requires c κs = search needs
@@ -42,14 +42,14 @@ either-requires-9 c κs = search needs
 
 returns : tie.Need-returns
 unfolding allowed
-returns c = rw (c .either9 .ensures, c .before .either8 .ensures, c .before .before .either7 .ensures, c .before .before .before .either6 .ensures, c .before .before .before .before .either5 .ensures, c .before .before .before .before .before .is-blank .ensures, c .before .before .before .before .before .before .either4 .ensures, c .before .before .before .before .before .before .before .either3 .ensures, c .before .before .before .before .before .before .before .before .either2 .ensures, c .before .before .before .before .before .before .before .before .before .either .ensures, c .before .before .before .before .before .before .before .before .before .before .both2 .ensures, c .before .before .before .before .before .before .before .before .before .before .before .both .ensures)
+returns c = rw (c .either9 .ensures, c .before .either8 .ensures, c .before .before .either7 .ensures, c .before .before .before .either6 .ensures, c .before .before .before .before .either5 .ensures, c .before .before .before .before .before .is-blank .ensures, c .before .before .before .before .before .before .either4 .ensures, c .before .before .before .before .before .before .before .either3 .ensures, c .before .before .before .before .before .before .before .before .either2 .ensures, c .before .before .before .before .before .before .before .before .before .either .ensures, c .before .before .before .before .before .before .before .before .before .before .is-digit .ensures, c .before .before .before .before .before .before .before .before .before .before .before .is-letter .ensures)
 
 pub is-allowed-spec : {M : Type 1} → statement M
 is-allowed-spec =
     tie.close
     (tie.spec
-    both-requires
-    both-requires-2
+    is-letter-requires
+    is-digit-requires
     either-requires
     either-requires-2
     either-requires-3

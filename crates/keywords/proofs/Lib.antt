@@ -1,2 +1,0 @@
-pub mod KeywordLaws
-pub mod Determined

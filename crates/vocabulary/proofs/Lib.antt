@@ -1,0 +1,3 @@
+pub mod FixedWords
+pub mod Sameness
+pub mod Determined
