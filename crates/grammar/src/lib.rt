@@ -1,8 +1,8 @@
 // The reply of the reader, and a refusal. The grammar itself is a definition, in specs/: no code runs it.
 ghost use mathlib.Core.Path.{_≡_};
 ghost use Rattle.grammar.specs.Reads.{refusal as refusalOf};
+use message::NO_RECORD;
 use message::Record;
-use message::empty;
 
 // The refusal number, 0 for none; the place, 0 for none; and the record, all zero where refused.
 pub struct Reply {
@@ -15,10 +15,9 @@ pub struct Reply {
 pub fn refusal(number: u8, place: usize) -> Reply
     ensures { λ r. ⌜ r ≡ refusalOf number place ⌝ }
 {
-    let message = empty();
     Reply {
         number,
         place,
-        message,
+        message: NO_RECORD,
     }
 }

@@ -2,15 +2,10 @@
 -- Assumes nothing.
 use Rattle.lists.proofs.Choice.{determined}
 use Rattle.lists.specs.Determined.{Determines}
-use Rattle.message.proofs.empty.Kinds as empty-kinds
-use Rattle.message.proofs.empty.Reads as empty-reads
 use Rattle.message.proofs.is_good.Kinds as is-good-kinds
 use Rattle.message.proofs.is_good.Reads as is-good-reads
 use Rattle.message.proofs.names_itself.Kinds as names-itself-kinds
 use Rattle.message.proofs.names_itself.Reads as names-itself-reads
-
-pub empty-determined : Determines 0 empty-kinds.ps empty-kinds.r empty-reads.Learnt
-empty-determined κs a r s x y p q = determined p q
 
 pub is-good-determined : Determines 0 is-good-kinds.ps is-good-kinds.r is-good-reads.Learnt
 is-good-determined κs a r s x y p q = determined p q

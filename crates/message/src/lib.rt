@@ -1,7 +1,5 @@
 // The record of one SIGMET. Where a form does not use a place, the place is zero and a choice takes its empty case.
 ghost use mathlib.Core.Path.{_≡_};
-ghost use Rattle.groups.specs.Groups.{noGroup};
-ghost use Rattle.message.specs.Empty.{noHeading, noLine, noRecord};
 ghost use Rattle.message.specs.Records.{goodHeading, goodLine, goodArea, sameSequence, namesItself, goodCancellation, goodForm, good};
 
 mod locating;
@@ -9,14 +7,20 @@ mod naming;
 mod reporting;
 
 use coordinates::Coordinate;
+use coordinates::NO_COORDINATE;
+use coordinates::NO_POINT;
 use coordinates::Point;
 use groups::Group;
+use groups::NO_GROUP;
+use groups::NO_PERIOD;
 use groups::Period;
 use groups::Time;
 use groups::good_group;
 use groups::good_period;
 use groups::same_group;
 use headings::Designator;
+use headings::NO_DESIGNATOR;
+use headings::NO_SEQUENCE;
 use headings::Sequence;
 use headings::four_letters;
 use headings::good_correction;
@@ -26,11 +30,24 @@ use levels::Level;
 use lists::both;
 use lists::either;
 use motions::Speed;
+use names::CLOSED_BY_CTA;
 
-// How many bytes are kept of a name, and how many points of an outline.
+// How many bytes are kept of a name, and how many of them a mountain's name may have.
 pub const NAME_BYTES: usize = 50;
 
+pub const MOUNTAIN_BYTES: usize = 30;
+
+// How many points an outline has, the closing one counted.
+pub const LEAST_POINTS: usize = 4;
+
 pub const MOST_POINTS: usize = 7;
+
+// The phenomena of a WS are 1 to 15. Those of a WV: a cloud of ash, and a cloud with the eruption that it comes from.
+pub const LAST_WEATHER: u8 = 15;
+
+pub const ASH_CLOUD: u8 = 16;
+
+pub const ASH_ERUPTION: u8 = 17;
 
 // Letters are kept as one number, in base 256.
 pub struct Heading {
@@ -53,6 +70,11 @@ pub struct Name {
     pub count: usize,
 }
 
+pub const NO_NAME: Name = Name {
+    bytes: [0; NAME_BYTES],
+    count: 0,
+};
+
 // The closing word is 1 FIR, 2 FIR/UIR or 3 CTA.
 pub struct Area {
     pub indicator: u32,
@@ -74,6 +96,11 @@ pub struct Volcano {
     pub position: Point,
 }
 
+pub const NO_VOLCANO: Volcano = Volcano {
+    name: NO_NAME,
+    position: NO_POINT,
+};
+
 // 1 OBS or 2 FCST, and the time, where one is given.
 pub struct Observation {
     pub word: u8,
@@ -81,11 +108,19 @@ pub struct Observation {
     pub time: Time,
 }
 
+// The time of an observation without one is all zero, as every place is that is not used.
+pub const UNTIMED: Time = Time { hour: 0, minute: 0 };
+
 // `N OF` a latitude, and so on: the letter before OF, and the coordinate.
 pub struct Side {
     pub of: u8,
     pub at: Coordinate,
 }
+
+pub const NO_SIDE: Side = Side {
+    of: 0,
+    at: NO_COORDINATE,
+};
 
 pub struct Bound {
     pub latitude: Side,
@@ -106,6 +141,13 @@ pub struct Extent {
     pub points: [Point; MOST_POINTS],
 }
 
+pub const NO_POINTS: [Point; MOST_POINTS] = [NO_POINT; MOST_POINTS];
+
+pub const NO_EXTENT: Extent = Extent {
+    location: Location::Nowhere,
+    points: NO_POINTS,
+};
+
 // Movement as compass point, speed and intensity; no movement and intensity; or intensity and a forecast.
 pub enum Ending {
     NoEnding,
@@ -114,7 +156,7 @@ pub enum Ending {
     Forecast(u8),
 }
 
-// The phenomenon is 1 to 17, in the paper's order, and 0 in no report.
+// The phenomenon is 1 to 17, in the paper's order; 0 is none.
 pub struct Report {
     pub phenomenon: u8,
     pub volcano: Volcano,
@@ -125,6 +167,20 @@ pub struct Report {
     pub forecast: Extent,
 }
 
+pub const NO_REPORT: Report = Report {
+    phenomenon: 0,
+    volcano: NO_VOLCANO,
+    observation: Observation {
+        word: 0,
+        timed: false,
+        time: UNTIMED,
+    },
+    extent: NO_EXTENT,
+    level: Level::NoLevel,
+    ending: Ending::NoEnding,
+    forecast: NO_EXTENT,
+};
+
 pub struct Record {
     pub heading: Heading,
     pub line: FirstLine,
@@ -133,75 +189,28 @@ pub struct Record {
     pub report: Report,
 }
 
-fn no_group() -> Group
-    ensures { λ r. ⌜ r ≡ noGroup ⌝ }
-{
-    Group {
-        day: 0,
-        hour: 0,
-        minute: 0,
-    }
-}
-
-fn no_heading() -> Heading
-    ensures { λ r. ⌜ r ≡ noHeading ⌝ }
-{
-    let designator = Designator {
-        kind: 0,
-        region: 0,
-        number: 0,
-    };
-    let sent = no_group();
-    Heading {
-        designator,
-        centre: 0,
-        sent,
-        correction: 0,
-    }
-}
-
-fn no_line() -> FirstLine
-    ensures { λ r. ⌜ r ≡ noLine ⌝ }
-{
-    let sequence = Sequence {
-        letter: 0,
-        digits: 0,
-        number: 0,
-    };
-    let group = no_group();
-    let valid = Period {
-        from: group,
-        to: group,
-    };
-    FirstLine {
-        unit: 0,
-        sequence,
-        valid,
-        office: 0,
-    }
-}
-
 // The empty record, all zero, that goes with every refusal.
-pub fn empty() -> Record
-    ensures { λ r. ⌜ r ≡ noRecord ⌝ }
-{
-    let heading = no_heading();
-    let line = no_line();
-    let name = naming::none();
-    let area = Area {
+pub const NO_RECORD: Record = Record {
+    heading: Heading {
+        designator: NO_DESIGNATOR,
+        centre: 0,
+        sent: NO_GROUP,
+        correction: 0,
+    },
+    line: FirstLine {
+        unit: 0,
+        sequence: NO_SEQUENCE,
+        valid: NO_PERIOD,
+        office: 0,
+    },
+    area: Area {
         indicator: 0,
-        name,
+        name: NO_NAME,
         closing: 0,
-    };
-    let report = reporting::none();
-    Record {
-        heading,
-        line,
-        area,
-        form: Form::NoForm,
-        report,
-    }
-}
+    },
+    form: Form::NoForm,
+    report: NO_REPORT,
+};
 
 fn good_heading(h: Heading) -> bool
     ensures { λ r. ⌜ r ≡ goodHeading h ⌝ }
@@ -228,7 +237,7 @@ fn good_area(a: Area) -> bool
     ensures { λ r. ⌜ r ≡ goodArea a ⌝ }
 {
     let name = a.name;
-    let closing = both(1 <= a.closing, a.closing <= 3);
+    let closing = both(1 <= a.closing, a.closing <= CLOSED_BY_CTA);
     both(
         four_letters(a.indicator),
         both(naming::good(name, false, NAME_BYTES), closing),

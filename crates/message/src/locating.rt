@@ -4,14 +4,14 @@ ghost use Prim.Native.Nat.{_≤_};
 ghost use lib.ListN.{take, drop};
 ghost use Rattle.lists.specs.Lists.{allOf};
 ghost use Rattle.coordinates.specs.Coordinates.{northSouth, eastWest};
-ghost use Rattle.coordinates.specs.Points.{goodPoint, emptyPoint, noPoint};
-ghost use Rattle.message.specs.Locations.{goodSide, emptySide, goodBound, noPoints, closingPoint, goodOutline, goodExtent, emptyExtent, noExtent};
+ghost use Rattle.coordinates.specs.Points.{goodPoint, emptyPoint};
+ghost use Rattle.message.specs.Locations.{goodSide, emptySide, goodBound, noPoints, closingPoint, goodOutline, goodExtent, emptyExtent};
 use crate::Bound;
 use crate::Extent;
+use crate::LEAST_POINTS;
 use crate::Location;
 use crate::MOST_POINTS;
 use crate::Side;
-use coordinates::Coordinate;
 use coordinates::Point;
 use coordinates::empty_coordinate;
 use coordinates::empty_point;
@@ -22,43 +22,18 @@ use coordinates::same_point;
 use lists::both;
 use lists::either;
 
-pub(crate) fn no_point() -> Point
-    ensures { λ r. ⌜ r ≡ noPoint ⌝ }
-{
-    let none = Coordinate {
-        letter: 0,
-        digits: 0,
-        degrees: 0,
-        minutes: 0,
-    };
-    Point {
-        latitude: none,
-        longitude: none,
-    }
-}
-
-pub(crate) fn none() -> Extent
-    ensures { λ r. ⌜ r ≡ noExtent ⌝ }
-{
-    let p = no_point();
-    Extent {
-        location: Location::Nowhere,
-        points: [p; MOST_POINTS],
-    }
-}
-
 fn good_latitude_side(s: Side) -> bool
     ensures { λ r. ⌜ r ≡ goodSide northSouth s ⌝ }
 {
     let at = s.at;
-    both(either(s.of == 78, s.of == 83), good_latitude(at))
+    both(either(s.of == b'N', s.of == b'S'), good_latitude(at))
 }
 
 fn good_longitude_side(s: Side) -> bool
     ensures { λ r. ⌜ r ≡ goodSide eastWest s ⌝ }
 {
     let at = s.at;
-    both(either(s.of == 69, s.of == 87), good_longitude(at))
+    both(either(s.of == b'E', s.of == b'W'), good_longitude(at))
 }
 
 fn empty_side(s: Side) -> bool
@@ -133,13 +108,13 @@ fn no_points(points: [Point; MOST_POINTS]) -> bool
 fn good_outline(n: u8, points: [Point; MOST_POINTS]) -> bool
     ensures { λ r. ⌜ r ≡ goodOutline n points ⌝ }
 {
-    if n < 4 {
-        return false;
-    }
-    if 7 < n {
-        return false;
-    }
     let count = n as usize;
+    if count < LEAST_POINTS {
+        return false;
+    }
+    if MOST_POINTS < count {
+        return false;
+    }
     let written = good_until(points, count);
     let closed = closing_point(points) == count - 1;
     both(written, both(closed, empty_from(points, count)))

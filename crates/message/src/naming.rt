@@ -5,20 +5,10 @@ ghost use lib.ListN.{length, take, drop};
 ghost use Rattle.lists.specs.Choice.{both as bothOf};
 ghost use Rattle.lists.specs.Lists.{allOf};
 ghost use Rattle.names.specs.Names.{nameText};
-ghost use Rattle.message.specs.Names.{zeroByte, goodName, emptyName, noName};
-use crate::NAME_BYTES;
+ghost use Rattle.message.specs.Names.{zeroByte, goodName, emptyName};
 use crate::Name;
 use lists::both;
 use names::name_text;
-
-pub(crate) fn none() -> Name
-    ensures { λ r. ⌜ r ≡ noName ⌝ }
-{
-    Name {
-        bytes: [0; NAME_BYTES],
-        count: 0,
-    }
-}
 
 fn all_zero(b: &[u8]) -> bool
     ensures { λ r. ⌜ r ≡ allOf zeroByte (now (b .entry)) ⌝ }

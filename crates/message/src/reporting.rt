@@ -1,9 +1,13 @@
 // A report: phenomenon, observation, location, level and ending.
 ghost use mathlib.Core.Path.{_≡_};
 ghost use Rattle.motions.specs.Motions.{goodIntensity};
-ghost use Rattle.message.specs.Reports.{goodVolcano, emptyVolcano, goodPhenomenon, goodObservation, emptyObservation, goodEnding, emptyEnding, goodReport, emptyReport, noReport};
+ghost use Rattle.message.specs.Reports.{goodVolcano, emptyVolcano, goodPhenomenon, goodObservation, emptyObservation, goodEnding, emptyEnding, goodReport, emptyReport};
+use crate::ASH_CLOUD;
+use crate::ASH_ERUPTION;
 use crate::Ending;
 use crate::Extent;
+use crate::LAST_WEATHER;
+use crate::MOUNTAIN_BYTES;
 use crate::Observation;
 use crate::Report;
 use crate::Volcano;
@@ -11,48 +15,21 @@ use crate::locating;
 use crate::naming;
 use coordinates::empty_point;
 use coordinates::good_point;
-use groups::Time;
 use groups::good_time;
-use levels::Level;
+use headings::KIND_WS;
+use headings::KIND_WV;
 use levels::empty_level;
 use levels::good_level;
 use lists::both;
 use lists::either;
 use motions::good_speed;
 
-pub(crate) fn none() -> Report
-    ensures { λ r. ⌜ r ≡ noReport ⌝ }
-{
-    let mount = naming::none();
-    let position = locating::no_point();
-    let volcano = Volcano {
-        name: mount,
-        position,
-    };
-    let time = Time { hour: 0, minute: 0 };
-    let observation = Observation {
-        word: 0,
-        timed: false,
-        time,
-    };
-    let nowhere = locating::none();
-    Report {
-        phenomenon: 0,
-        volcano,
-        observation,
-        extent: nowhere,
-        level: Level::NoLevel,
-        ending: Ending::NoEnding,
-        forecast: nowhere,
-    }
-}
-
 fn good_volcano(v: Volcano) -> bool
     ensures { λ r. ⌜ r ≡ goodVolcano v ⌝ }
 {
     let mount = v.name;
     let position = v.position;
-    let named = either(naming::is_empty(mount), naming::good(mount, true, 30));
+    let named = either(naming::is_empty(mount), naming::good(mount, true, MOUNTAIN_BYTES));
     both(named, good_point(position))
 }
 
@@ -68,10 +45,10 @@ fn good_phenomenon(kind: u8, n: u8, v: Volcano) -> bool
     ensures { λ r. ⌜ r ≡ goodPhenomenon kind n v ⌝ }
 {
     let quiet = empty_volcano(v);
-    let weather = both(kind == 2, both(both(1 <= n, n <= 15), quiet));
-    let cloud = both(n == 16, quiet);
-    let eruption = both(n == 17, good_volcano(v));
-    either(weather, both(kind == 3, either(cloud, eruption)))
+    let weather = both(kind == KIND_WS, both(both(1 <= n, n <= LAST_WEATHER), quiet));
+    let cloud = both(n == ASH_CLOUD, quiet);
+    let eruption = both(n == ASH_ERUPTION, good_volcano(v));
+    either(weather, both(kind == KIND_WV, either(cloud, eruption)))
 }
 
 fn good_observation(o: Observation) -> bool
@@ -111,7 +88,7 @@ fn good_ending(kind: u8, e: Ending, f: Extent) -> bool
             locating::is_empty(f),
         ),
         Ending::Stationary(n) => both(good_intensity(n), locating::is_empty(f)),
-        Ending::Forecast(n) => both(both(kind == 2, good_intensity(n)), locating::good(f)),
+        Ending::Forecast(n) => both(both(kind == KIND_WS, good_intensity(n)), locating::good(f)),
     }
 }
 
