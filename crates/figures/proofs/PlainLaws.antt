@@ -12,7 +12,7 @@ use Rattle.lists.specs.Choice.{both, either}
 use Rattle.lists.specs.Lists.{allOf}
 use Rattle.lists.proofs.Choice.{both-left, both-right, both-true, either-left, either-right}
 use Rattle.lists.proofs.Lists.{all-weaken}
-use Rattle.words.specs.Bytes.{letter, digit, blank, solid, stroke, bracket, equals, allowed, plain}
+use Rattle.words.specs.Bytes.{letter, digit, blank, solid, punctuation, bracket, equals, allowed, plain}
 use Rattle.words.specs.Words.{solidWord, plainWord}
 use Rattle.words.proofs.Ranges.{between-low, between-high}
 use Rattle.words.proofs.Words.{run-of, run-some, run-all}
@@ -35,13 +35,13 @@ unfolding allowed
 digit-plain x d =
     let low : 48 ≤ x = between-low 48 57 x d in
     let high : x ≤ 57 = between-high 48 57 x d in
-    plain-above x (either-right (letter x) (either-left (either (blank x) (either (stroke x) (either (bracket x) (equals x)))) d)) (omega arith) (λ q. omega arith)
+    plain-above x (either-right (letter x) (either-left (either (blank x) (either (punctuation x) (either (bracket x) (equals x)))) d)) (omega arith) (λ q. omega arith)
 
 pub letter-plain : (x : ℕ) → letter x ≡ true → plain x ≡ true
 unfolding allowed
 letter-plain x l =
     let low : 65 ≤ x = between-low 65 90 x l in
-    plain-above x (either-left (either (digit x) (either (blank x) (either (stroke x) (either (bracket x) (equals x))))) l) (omega arith) (λ q. omega arith)
+    plain-above x (either-left (either (digit x) (either (blank x) (either (punctuation x) (either (bracket x) (equals x))))) l) (omega arith) (λ q. omega arith)
 
 pub digits-plain : (w : List ℕ) → allOf digit w ≡ true → allOf plain w ≡ true
 digits-plain w t = all-weaken digit plain digit-plain w t

@@ -132,7 +132,10 @@ fn ten_or_eleven(w: &[u8]) -> Level
         return Level::NoLevel;
     }
     let n = figures(&w[4..past]);
-    if both(is_between(1, MOST_FEET, n), feet_figures(n) as usize == past - 4) {
+    if both(
+        is_between(1, MOST_FEET, n),
+        feet_figures(n) as usize == past - 4,
+    ) {
         Level::SurfaceFeet(n)
     } else {
         Level::NoLevel

@@ -29,7 +29,10 @@ fn good_volcano(v: Volcano) -> bool
 {
     let mount = v.name;
     let position = v.position;
-    let named = either(naming::is_empty(mount), naming::good(mount, true, MOUNTAIN_BYTES));
+    let named = either(
+        naming::is_empty(mount),
+        naming::good(mount, true, MOUNTAIN_BYTES),
+    );
     both(named, good_point(position))
 }
 
@@ -45,7 +48,10 @@ fn good_phenomenon(kind: u8, n: u8, v: Volcano) -> bool
     ensures { λ r. ⌜ r ≡ goodPhenomenon kind n v ⌝ }
 {
     let quiet = empty_volcano(v);
-    let weather = both(kind == KIND_WS, both(both(1 <= n, n <= LAST_WEATHER), quiet));
+    let weather = both(
+        kind == KIND_WS,
+        both(both(1 <= n, n <= LAST_WEATHER), quiet),
+    );
     let cloud = both(n == ASH_CLOUD, quiet);
     let eruption = both(n == ASH_ERUPTION, good_volcano(v));
     either(weather, both(kind == KIND_WV, either(cloud, eruption)))

@@ -20,8 +20,7 @@ use Rattle.grammar.specs.States.Move.{goes, dead}
 use Rattle.grammar.specs.States.State.{atEnd}
 use Rattle.grammar.specs.Steps.{goesIf, step}
 use Rattle.grammar.proofs.NumberLaws.{number-range}
-use Rattle.reader_sections.specs.Going.{goesOn, Goes, wordFrom, WordAt}
-use Rattle.reader_sections.specs.Kinds.{EndAt}
+use Rattle.reader_sections.specs.Going.{EndAt, goesOn, Goes, wordFrom, WordAt}
 use Rattle.reader_sections.proofs.Chains.{off-ends}
 use Rattle.reader_sections.proofs.Going.{dead-at, same-at, goes-at, done-at, some-word}
 

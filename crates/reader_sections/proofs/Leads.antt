@@ -1,7 +1,7 @@
 -- One word at a step, and one section after another: plain transitivity, for a refused step stays as it is.
 -- Assumes nothing.
 use mathlib.Core.Bool.{Bool, true, false, not}
-use mathlib.Core.List.{List, []}
+use mathlib.Core.List.{List, [], _∷_}
 use mathlib.Core.Path.{_≡_, refl, ap, sym, _∙_}
 use Prim.Native.Nat.{ℕ, _-_, _≤_, _<_}
 use native.Mathlib.Omega.{arith}
@@ -13,7 +13,6 @@ use Rattle.lists.proofs.Choice.{by, clash, pick-true, pick-false}
 use Rattle.figures.specs.Codes.{codeOf}
 use Rattle.figures.proofs.CodeLaws.{same-code}
 use Rattle.headings.specs.Headings.{correctionOf, goodCorrection}
-use Rattle.keywords.specs.Keywords.{keywordOf}
 use Rattle.message.specs.declared.Record.{Record}
 use Rattle.grammar.specs.Runs.{runAt}
 use Rattle.grammar.specs.Runs.Ran.{refused}
@@ -21,14 +20,14 @@ use Rattle.grammar.specs.States.{State}
 use Rattle.grammar.specs.States.Move.{goes}
 use Rattle.grammar.specs.States.State.{atEnd, atCorrection, atUnit}
 use Rattle.grammar.specs.Steps.{step}
-use Rattle.reader_sections.specs.Going.{Goes, Ends, wordFrom, WordAt}
+use Rattle.reader_sections.specs.Going.{EndAt, Goes, Ends, wordFrom, WordAt}
 use Rattle.reader_sections.specs.Heads.{CorrectionSays}
-use Rattle.reader_sections.specs.Kinds.{FixedWord, EndAt}
+use Rattle.figures.specs.Codes.{FixedWord}
 use Rattle.reader_sections.specs.Leading.{runOn, Leads, Finishes, Stands, Before, Judged, Takes, TakesFixed, TakesLong, MayTake, Closes}
 use Rattle.reader_sections.specs.declared.steps.Step.{Step}
 use Rattle.reader_sections.proofs.Going.{skip, word-again, some-word}
 use Rattle.reader_sections.proofs.KindLaws.{good-word, bad-word, part-is, goes-word, same-word}
-use Rattle.reader_sections.proofs.Tells.{Told, keyword-none, correction-told}
+use Rattle.reader_sections.proofs.Tells.{FieldTells, correction-tells}
 
 module _ {s mid : State} {t : List ℕ} {from to : Step} (g : Leads s t from to mid) where
   pub then : {next : State} {to′ : Step} → Leads mid t to to′ next → Leads s t from to′ next
@@ -143,15 +142,15 @@ module _ {t : List ℕ} {from to : Step} {g : Bool} {refusal : ℕ} (f : Stands 
     }
 
 -- … by the field that tells its kind
-pub told-good : {A : Type 0} {read : List ℕ → A} {good : A → Bool} {field : A → ℕ} {none : ℕ} → Told read good field none → (w : List ℕ) (v : A) → v ≡ read w
+pub field-good : {A : Type 0} {read : List ℕ → A} {good : A → Bool} {field : A → ℕ} {none : ℕ} → FieldTells read good field none → (w : List ℕ) (v : A) → v ≡ read w
     → not (eqb (field v) none) ≡ good v
-told-good {field = field} {none} k w v e =
+field-good {field = field} {none} k w v e =
     by (eqb (field v) none) (λ y. rw y (sym (k .bad w v e (eqb-true _ _ y)))) (λ y. rw y (sym (k .fine w v e (eqb-false _ _ y))))
 
-pub told : {A : Type 0} {read : List ℕ → A} {good : A → Bool} {field : A → ℕ} {none : ℕ} {t : List ℕ} {from to : Step} {refusal : ℕ} {v : A}
-    → Told read good field none → Stands t from → v ≡ read (part (from .place) (from .end) t)
+pub takes-by-field : {A : Type 0} {read : List ℕ → A} {good : A → Bool} {field : A → ℕ} {none : ℕ} {t : List ℕ} {from to : Step} {refusal : ℕ} {v : A}
+    → FieldTells read good field none → Stands t from → v ≡ read (part (from .place) (from .end) t)
     → Judged t from (not (eqb (field v) none)) refusal to → Takes read good refusal t from to v
-told k f e j = takes f j (k .end) e (told-good k _ _ e)
+takes-by-field k f e j = takes f j (k .end) e (field-good k _ _ e)
 
 -- a fixed word, by its code
 module _ {t : List ℕ} {from : Step} {c : ℕ} (f : Stands t from) (e : c ≡ codeOf (part (from .place) (from .end) t)) where
@@ -212,11 +211,17 @@ closes-stays {from} e = record { says = λ t r f. record { says = on-refused (at
 pub closes-going : {from to : Step} → from .number ≡ 0 → ((t : List ℕ) → Stands t from → EndAt t (from .place) (to .number) (to .place)) → Closes from to
 closes-going {from} z e = record { says = λ t r f. record { says = on-going (atEnd r) t from z ∙ e t f .says r .says } }
 
--- a long fixed word, by its number among the keywords: its value is the number wanted
-pub takes-keyword : {t : List ℕ} {from to : Step} {wanted refusal v : ℕ} → 1 ≤ wanted → Stands t from
-    → v ≡ keywordOf (part (from .place) (from .end) t) → Judged t from (eqb wanted v) refusal to → TakesLong wanted refusal t from to
-takes-keyword {wanted = wanted} some f e j = record {
-  says = λ s next k n. takes f j {read = keywordOf} {good = eqb wanted} (keyword-none wanted some) e refl .says s (λ v. next) k n;
+-- the empty word is none that has a byte
+no-word : (k : List ℕ) → 0 < length k → same [] k ≡ false
+unfolding same
+no-word [] h = absurd (omega arith)
+no-word (x ∷ k) h = refl
+
+-- a long fixed word
+pub takes-long : {t wanted : List ℕ} {from to : Step} {refusal : ℕ} {found : Bool} → 0 < length wanted → Stands t from
+    → found ≡ same (part (from .place) (from .end) t) wanted → Judged t from found refusal to → TakesLong wanted refusal t from to
+takes-long {wanted = wanted} some f e j = record {
+  says = λ s next k n. takes f j {A = List ℕ} {read = λ (u : List ℕ). u} {good = λ (u : List ℕ). same u wanted} (no-word wanted some) refl e .says s (λ u. next) k n;
   stands = j .stands;
 }
 
@@ -228,7 +233,7 @@ module _ {t : List ℕ} {from : Step} {v : ℕ} (f : Stands t from) (e : v ≡ c
     says = λ d c g. whether (from .number)
         (λ z.
         let k : WordAt t (from .place) (from .place) (from .end) = f .going z in
-        let other : goodCorrection (correctionOf (wordFrom t (from .place))) ≡ false = correction-told .bad (wordFrom t (from .place)) _ refl (ap correctionOf (sym (part-is k)) ∙ (sym e ∙ y)) in
+        let other : goodCorrection (correctionOf (wordFrom t (from .place))) ≡ false = correction-tells .bad (wordFrom t (from .place)) _ refl (ap correctionOf (sym (part-is k)) ∙ (sym e ∙ y)) in
         from-going z (rw z (same-word (standing f) k (atCorrection d c g) (atUnit (record { designator = d; centre = c; sent = g; correction = v })) refl (rw (other, y)))))
         (λ z. stays z refl refl);
     stands = f;
@@ -241,9 +246,9 @@ module _ {t : List ℕ} {from : Step} {v : ℕ} (f : Stands t from) (e : v ≡ c
         (λ z.
         let k : WordAt t (from .place) (from .place) (from .end) = f .going z in
         let is : v ≡ correctionOf (wordFrom t (from .place)) = e ∙ ap correctionOf (part-is k) in
-        let good : goodCorrection (correctionOf (wordFrom t (from .place))) ≡ true = correction-told .fine (wordFrom t (from .place)) _ refl (λ q. y (is ∙ q)) in
+        let good : goodCorrection (correctionOf (wordFrom t (from .place))) ≡ true = correction-tells .fine (wordFrom t (from .place)) _ refl (λ q. y (is ∙ q)) in
         past-leads f z (goes-word (standing f) k (atCorrection d c g) (atUnit (record { designator = d; centre = c; sent = g; correction = v }))
-        (some-word (λ (x : List ℕ). goodCorrection (correctionOf x)) (wordFrom t (from .place)) (correction-told .end) good) (rw (good, is))) p)
+        (some-word (λ (x : List ℕ). goodCorrection (correctionOf x)) (wordFrom t (from .place)) (correction-tells .end) good) (rw (good, is))) p)
         (λ z. absurd (y (e ∙ ap correctionOf (nothing t _ _ (sym (f .stays z))))));
     stands = p .stands;
   }

@@ -2,11 +2,10 @@ pub mod Going
 pub mod Chains
 pub mod KindLaws
 pub mod Tells
-pub mod FixedWords
 pub mod Leads
 pub mod Sides
 pub mod FirstWords
 pub mod Determined
-pub mod Forming
+pub mod Storms
 pub mod NameText
 pub mod OutlineLaws

@@ -33,11 +33,11 @@ use Rattle.reader_sections.specs.Leading.{Leads, Stands, Judged, TakesFi
 use Rattle.reader_sections.specs.declared.steps.Step.{Step}
 use Rattle.reader_sections.specs.Outlines.{Points, FollowsSays, ClosesSays, LatitudeSays, LongitudeSays, PointSays}
 use Rattle.reader_sections.specs.Locations.{LocatedSays}
-use Rattle.reader_sections.proofs.Tells.{latitude-told, longitude-told}
-use Rattle.reader_sections.proofs.FixedWords.{fixed-dash}
+use Rattle.reader_sections.proofs.Tells.{latitude-tells, longitude-tells}
+use Rattle.vocabulary.proofs.FixedWords.{fixed-dash}
 use Rattle.reader_sections.proofs.Going.{some-word}
 use Rattle.reader_sections.proofs.KindLaws.{part-is, goes-word, dead-word}
-use Rattle.reader_sections.proofs.Leads.{then, over, nothing, judged-leads, judged-good, takes, told-good, standing}
+use Rattle.reader_sections.proofs.Leads.{then, over, nothing, judged-leads, judged-good, takes, field-good, standing}
 use Rattle.reader_sections.proofs.Sides.{on-step, there-step, nowhere-step, takes-on, fixed-on}
 
 module _ {first : Point} {count : ℕ} where
@@ -80,7 +80,7 @@ pub latitude-says : {t : List ℕ} {from to : Step} {first : Point} {count refus
     → c ≡ coordinateOf northSouth (part (from .place) (from .end) t) → FollowsSays first count c may → g ≡ both (not (eqb (c .letter) 0)) may → Judged t from g refusal to
     → LatitudeSays first count refusal t from to c
 latitude-says f e may b j = record {
-  says = λ ps k. takes f j (both-false-left _ (latitude-told .end)) e (b ∙ rw (told-good latitude-told _ _ e, may .says ps k));
+  says = λ ps k. takes f j (both-false-left _ (latitude-tells .end)) e (b ∙ rw (field-good latitude-tells _ _ e, may .says ps k));
   stands = j .stands;
 }
 
@@ -110,15 +110,15 @@ module _ {t : List ℕ} {from to : Step} {first : Point} {count refusal : ℕ} {
     (fit : fits ≡ pick closed (leb leastPoints (count + 1)) (ltb (count + 1) mostPoints)) (b : g ≡ both (not (eqb (p .longitude .letter) 0)) fits)
     (j : Judged t from g refusal to) where
   good-fits : g ≡ both (goodCoordinate eastWest (p .longitude)) fits
-  good-fits = b ∙ rw (told-good longitude-told _ _ e)
+  good-fits = b ∙ rw (field-good longitude-tells _ _ e)
 
   never : (from .number ≡ 0 → ⊥) → g ≡ false
   never z =
-      good-fits ∙ both-false-left _ (ap (goodCoordinate eastWest) (e ∙ ap (coordinateOf eastWest) (nothing t _ _ (sym (f .stays z)))) ∙ longitude-told .end)
+      good-fits ∙ both-false-left _ (ap (goodCoordinate eastWest) (e ∙ ap (coordinateOf eastWest) (nothing t _ _ (sym (f .stays z)))) ∙ longitude-tells .end)
 
   some : from .number ≡ 0 → g ≡ true → 0 < length (wordFrom t (from .place))
   some z y =
-      some-word (λ (x : List ℕ). goodCoordinate eastWest (coordinateOf eastWest x)) (wordFrom t (from .place)) (longitude-told .end)
+      some-word (λ (x : List ℕ). goodCoordinate eastWest (coordinateOf eastWest x)) (wordFrom t (from .place)) (longitude-tells .end)
       (rw (east-is (f .going z) e) (both-left _ fits (sym good-fits ∙ y)))
 
   moved : (z : from .number ≡ 0) (site : Site) (ps : List Point) → Points first count ps → placeStep (closingAt site) (atLongitude ps (p .latitude)) (wordFrom t (from .place))

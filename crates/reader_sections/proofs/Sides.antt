@@ -1,5 +1,5 @@
 -- One word of a location, in a report and in a forecast alike: what the location does with it is what the machine does. And the letter of a
--- side, told by the word's code.
+-- side, takes-by-field by the word's code.
 -- Assumes nothing.
 use mathlib.Core.Bool.{Bool, true, false, not}
 use mathlib.Core.List.{List, [], _∷_}
@@ -13,7 +13,7 @@ use Rattle.lists.specs.Base.{worthAfter}
 use Rattle.lists.specs.Lists.{allOf, part, same}
 use Rattle.lists.proofs.Choice.{by, either-right, either-cases, pick-true, pick-false}
 use Rattle.lists.proofs.Lists.{same-refl, same-is}
-use Rattle.figures.specs.Codes.{codeOf}
+use Rattle.figures.specs.Codes.{short, codeOf}
 use Rattle.figures.proofs.CodeLaws.{code-tells}
 use Rattle.coordinates.specs.Coordinates.{Axis, northSouth, eastWest, coordinateOf, goodCoordinate}
 use Rattle.coordinates.specs.declared.Coordinate.{Coordinate}
@@ -31,11 +31,11 @@ use Rattle.grammar.specs.States.State.{atPlace}
 use Rattle.grammar.specs.States.Move.{goes, dead}
 use Rattle.grammar.specs.Steps.{goesIf, closingAt, after, stepAfter, settled, step}
 use Rattle.reader_sections.specs.Going.{wordFrom}
-use Rattle.reader_sections.specs.Kinds.{FixedWord}
+use Rattle.figures.specs.Codes.{FixedWord}
 use Rattle.reader_sections.specs.Leading.{Leads, Stands, Before, Judged, Takes, TakesFixed}
 use Rattle.reader_sections.specs.declared.steps.Step.{Step}
 use Rattle.reader_sections.specs.Locations.{sideIn, SideSays}
-use Rattle.reader_sections.proofs.FixedWords.{fixed-of, fixed-fir, fixed-cta}
+use Rattle.vocabulary.proofs.FixedWords.{fixed-of, fixed-fir, fixed-cta}
 use Rattle.reader_sections.proofs.Going.{some-word}
 use Rattle.reader_sections.proofs.KindLaws.{part-is, goes-word}
 use Rattle.reader_sections.proofs.Leads.{then, whether, nothing, takes, standing, past-leads}
@@ -129,16 +129,20 @@ module _ {refusal : ℕ} {t : List ℕ} {from mid to : Step} {value : Coordinate
       (takes-there h site (atLongitudeBound north side) n (λ (v : Coordinate). bounded north (record { of = side; at = v })) (λ z. refl))
 
 -- a word of one letter, and its code
-letter-code : (b : ℕ) → b < 256 → FixedWord (b ∷ []) (256 + b)
-unfolding codeOf allOf worthAfter same
-letter-code b h = record { is-short = rw (lt-ltb b 256 h); has = rw (lt-ltb b 256 h); some = refl }
+letter-short : (b : ℕ) → b < 256 → short (b ∷ []) ≡ true
+unfolding allOf
+letter-short b h = rw (lt-ltb b 256 h)
+
+letter-code : (b : ℕ) → b < 256 → codeOf (b ∷ []) ≡ 256 + b
+unfolding codeOf allOf worthAfter
+letter-code b h = rw (lt-ltb b 256 h)
 
 letter-tells : (w : List ℕ) (b : ℕ) → b < 256 → codeOf w ≡ 256 + b → w ≡ b ∷ []
-letter-tells w b h e = code-tells w (b ∷ []) (letter-code b h .is-short) (e ∙ sym (letter-code b h .has))
+letter-tells w b h e = code-tells w (b ∷ []) (letter-short b h) (e ∙ sym (letter-code b h))
 
 letter-not : (w : List ℕ) (b : ℕ) → b < 256 → (codeOf w ≡ 256 + b → ⊥) → same w (b ∷ []) ≡ false
 letter-not w b h n =
-    by (same w (b ∷ [])) (λ y. absurd (n (ap codeOf (same-is w (b ∷ []) y) ∙ letter-code b h .has))) (λ f. f)
+    by (same w (b ∷ [])) (λ y. absurd (n (ap codeOf (same-is w (b ∷ []) y) ∙ letter-code b h))) (λ f. f)
 
 -- the letter of a side is not 0
 some-letter : (a : Axis) (w : List ℕ) → 0 < a .plus → 0 < a .minus → sideWord a w ≡ true → getD w 0 0 ≡ 0 → ⊥

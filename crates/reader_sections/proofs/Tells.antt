@@ -3,10 +3,8 @@
 use mathlib.Core.Bool.{Bool, true, false}
 use mathlib.Core.List.{List, []}
 use mathlib.Core.Path.{_≡_, refl}
-use Prim.Native.Nat.{ℕ, _≤_, _^_}
-use native.Mathlib.Omega.{arith}
+use Prim.Native.Nat.{ℕ, _^_}
 use lib.Dec.{ltb, eqb, lit<}
-use borrow.Author.Tests.{ne-eqb}
 use Rattle.lists.specs.Base.{worthAfter, places}
 use Rattle.lists.specs.Choice.{both, either}
 use Rattle.lists.specs.Lists.{allOf, indexOf, same}
@@ -30,7 +28,6 @@ use Rattle.headings.specs.declared.Designator.{Designator}
 use Rattle.headings.specs.declared.Sequence.{Sequence}
 use Rattle.headings.proofs.HeadingLaws.{designator-reads, correction-reads, office-reads}
 use Rattle.headings.proofs.SequenceLaws.{sequence-reads}
-use Rattle.keywords.specs.Keywords.{shortKeywords, longKeywords, keywords, keywordOf}
 use Rattle.message.specs.declared.FirstLine.{FirstLine}
 use Rattle.motions.specs.Motions.{compassWords, compassOf, goodCompass, intensityWords, intensityOf, goodIntensity}
 use Rattle.motions.specs.Speeds.{unitWords, speedOf, goodSpeed}
@@ -43,14 +40,14 @@ use Rattle.reader_sections.specs.Endings.{forecastTime}
 use Rattle.reader_sections.proofs.KindLaws.{field-yes, field-no}
 
 -- a kind that a field tells: a word's value is good exactly where the field is not the number of none, and the `=` is no word of the kind
-pub record Told {A : Type 0} (read : List ℕ → A) (good : A → Bool) (field : A → ℕ) (none : ℕ) : Type 0 where
+pub record FieldTells {A : Type 0} (read : List ℕ → A) (good : A → Bool) (field : A → ℕ) (none : ℕ) : Type 0 where
   pub bad : (w : List ℕ) (v : A) → v ≡ read w → field v ≡ none → good v ≡ false
   pub fine : (w : List ℕ) (v : A) → v ≡ read w → (field v ≡ none → ⊥) → good v ≡ true
   pub end : good (read []) ≡ false
 
-told-by : {A : Type 0} {read : List ℕ → A} {spell : A → List ℕ} {good : A → Bool} {none : A} → Reads read spell good none → (field : A → ℕ)
-    → ((v : A) → good v ≡ true → field v ≡ field none → ⊥) → good (read []) ≡ false → Told read good field (field none)
-told-by r field tells none = record { bad = field-no r field tells; fine = field-yes r field tells; end = none }
+tells-by : {A : Type 0} {read : List ℕ → A} {spell : A → List ℕ} {good : A → Bool} {none : A} → Reads read spell good none → (field : A → ℕ)
+    → ((v : A) → good v ≡ true → field v ≡ field none → ⊥) → good (read []) ≡ false → FieldTells read good field (field none)
+tells-by r field tells none = record { bad = field-no r field tells; fine = field-yes r field tells; end = none }
 
 -- four letters, and four letters and a hyphen
 letters-some : (n : ℕ) → goodLetters 4 n ≡ true → n ≡ 0 → ⊥
@@ -65,11 +62,11 @@ office-none : goodLetters 4 (officeOf []) ≡ false
 unfolding goodLetters officeOf places allOf
 office-none = refl
 
-pub letters-told : Told (lettersOf 4) (goodLetters 4) (λ (n : ℕ). n) 0
-letters-told = told-by (letters-reads 4 (lit< tt) (lit< tt)) (λ (n : ℕ). n) letters-some letters-none
+pub letters-tells : FieldTells (lettersOf 4) (goodLetters 4) (λ (n : ℕ). n) 0
+letters-tells = tells-by (letters-reads 4 (lit< tt) (lit< tt)) (λ (n : ℕ). n) letters-some letters-none
 
-pub office-told : Told officeOf (goodLetters 4) (λ (n : ℕ). n) 0
-office-told = told-by office-reads (λ (n : ℕ). n) letters-some office-none
+pub office-tells : FieldTells officeOf (goodLetters 4) (λ (n : ℕ). n) 0
+office-tells = tells-by office-reads (λ (n : ℕ). n) letters-some office-none
 
 designator-some : (d : Designator) → goodDesignator d ≡ true → d .kind ≡ 0 → ⊥
 unfolding goodDesignator typeWords
@@ -79,8 +76,8 @@ designator-none : goodDesignator (designatorOf []) ≡ false
 unfolding goodDesignator designatorOf typeWords
 designator-none = refl
 
-pub designator-told : Told designatorOf goodDesignator (λ (d : Designator). d .kind) 0
-designator-told = told-by designator-reads (λ (d : Designator). d .kind) designator-some designator-none
+pub designator-tells : FieldTells designatorOf goodDesignator (λ (d : Designator). d .kind) 0
+designator-tells = tells-by designator-reads (λ (d : Designator). d .kind) designator-some designator-none
 
 correction-some : (c : ℕ) → goodCorrection c ≡ true → c ≡ 0 → ⊥
 unfolding goodCorrection
@@ -90,8 +87,8 @@ correction-none : goodCorrection (correctionOf []) ≡ false
 unfolding goodCorrection correctionOf
 correction-none = refl
 
-pub correction-told : Told correctionOf goodCorrection (λ (c : ℕ). c) 0
-correction-told = told-by correction-reads (λ (c : ℕ). c) correction-some correction-none
+pub correction-tells : FieldTells correctionOf goodCorrection (λ (c : ℕ). c) 0
+correction-tells = tells-by correction-reads (λ (c : ℕ). c) correction-some correction-none
 
 sequence-some : (s : Sequence) → goodSequence s ≡ true → s .digits ≡ 0 → ⊥
 unfolding goodSequence
@@ -103,8 +100,8 @@ sequence-none : goodSequence (sequenceOf []) ≡ false
 unfolding goodSequence sequenceOf
 sequence-none = refl
 
-pub sequence-told : Told sequenceOf goodSequence (λ (s : Sequence). s .digits) 0
-sequence-told = told-by sequence-reads (λ (s : Sequence). s .digits) sequence-some sequence-none
+pub sequence-tells : FieldTells sequenceOf goodSequence (λ (s : Sequence). s .digits) 0
+sequence-tells = tells-by sequence-reads (λ (s : Sequence). s .digits) sequence-some sequence-none
 
 group-some : (g : Group) → goodGroup g ≡ true → g .day ≡ 0 → ⊥
 unfolding goodGroup
@@ -114,8 +111,8 @@ group-none : goodGroup (groupOf []) ≡ false
 unfolding goodGroup groupOf
 group-none = refl
 
-pub group-told : Told groupOf goodGroup (λ (g : Group). g .day) 0
-group-told = told-by group-reads (λ (g : Group). g .day) group-some group-none
+pub group-tells : FieldTells groupOf goodGroup (λ (g : Group). g .day) 0
+group-tells = tells-by group-reads (λ (g : Group). g .day) group-some group-none
 
 period-some : (p : Period) → goodPeriod p ≡ true → p .from .day ≡ 0 → ⊥
 unfolding goodPeriod goodGroup
@@ -125,8 +122,8 @@ pub period-none : goodPeriod (periodOf []) ≡ false
 unfolding goodPeriod goodGroup periodOf
 period-none = refl
 
-pub period-told : Told periodOf goodPeriod (λ (p : Period). p .from .day) 0
-period-told = told-by period-reads (λ (p : Period). p .from .day) period-some period-none
+pub period-tells : FieldTells periodOf goodPeriod (λ (p : Period). p .from .day) 0
+period-tells = tells-by period-reads (λ (p : Period). p .from .day) period-some period-none
 
 -- no clock shows hour 24
 time-some : (u : Time) → goodTime u ≡ true → u .hour ≡ 24 → ⊥
@@ -137,8 +134,8 @@ pub time-none : goodTime (timeOf []) ≡ false
 unfolding goodTime timeOf
 time-none = refl
 
-pub time-told : Told timeOf goodTime (λ (u : Time). u .hour) 24
-time-told = told-by time-reads (λ (u : Time). u .hour) time-some time-none
+pub time-tells : FieldTells timeOf goodTime (λ (u : Time). u .hour) 24
+time-tells = tells-by time-reads (λ (u : Time). u .hour) time-some time-none
 
 closing-some : (n : ℕ) → goodClosing n ≡ true → n ≡ 0 → ⊥
 unfolding closingWords
@@ -148,8 +145,8 @@ closing-none : goodClosing (closingOf []) ≡ false
 unfolding closingWords indexOf same
 closing-none = refl
 
-pub closing-told : Told closingOf goodClosing (λ (n : ℕ). n) 0
-closing-told = told-by closing-reads (λ (n : ℕ). n) closing-some closing-none
+pub closing-tells : FieldTells closingOf goodClosing (λ (n : ℕ). n) 0
+closing-tells = tells-by closing-reads (λ (n : ℕ). n) closing-some closing-none
 
 -- neither letter of an axis is 0
 coordinate-some : (a : Axis) → either (eqb 0 (a .plus)) (eqb 0 (a .minus)) ≡ false → (c : Coordinate) → goodCoordinate a c ≡ true → c .letter ≡ 0 → ⊥
@@ -160,15 +157,15 @@ latitude-none : goodCoordinate northSouth (coordinateOf northSouth []) ≡ false
 unfolding goodCoordinate coordinateOf
 latitude-none = refl
 
-pub latitude-told : Told (coordinateOf northSouth) (goodCoordinate northSouth) (λ (c : Coordinate). c .letter) 0
-latitude-told = told-by latitude-reads (λ (c : Coordinate). c .letter) (coordinate-some northSouth refl) latitude-none
+pub latitude-tells : FieldTells (coordinateOf northSouth) (goodCoordinate northSouth) (λ (c : Coordinate). c .letter) 0
+latitude-tells = tells-by latitude-reads (λ (c : Coordinate). c .letter) (coordinate-some northSouth refl) latitude-none
 
 longitude-none : goodCoordinate eastWest (coordinateOf eastWest []) ≡ false
 unfolding goodCoordinate coordinateOf
 longitude-none = refl
 
-pub longitude-told : Told (coordinateOf eastWest) (goodCoordinate eastWest) (λ (c : Coordinate). c .letter) 0
-longitude-told = told-by longitude-reads (λ (c : Coordinate). c .letter) (coordinate-some eastWest refl) longitude-none
+pub longitude-tells : FieldTells (coordinateOf eastWest) (goodCoordinate eastWest) (λ (c : Coordinate). c .letter) 0
+longitude-tells = tells-by longitude-reads (λ (c : Coordinate). c .letter) (coordinate-some eastWest refl) longitude-none
 
 -- the sixteen points are 0 to 15
 compass-some : (n : ℕ) → goodCompass n ≡ true → n ≡ 16 → ⊥
@@ -179,8 +176,8 @@ compass-none : goodCompass (compassOf []) ≡ false
 unfolding compassWords indexOf same
 compass-none = refl
 
-pub compass-told : Told compassOf goodCompass (λ (n : ℕ). n) 16
-compass-told = told-by compass-reads (λ (n : ℕ). n) compass-some compass-none
+pub compass-tells : FieldTells compassOf goodCompass (λ (n : ℕ). n) 16
+compass-tells = tells-by compass-reads (λ (n : ℕ). n) compass-some compass-none
 
 speed-some : (s : Speed) → goodSpeed s ≡ true → s .unit ≡ 0 → ⊥
 unfolding goodSpeed unitWords
@@ -190,8 +187,8 @@ speed-none : goodSpeed (speedOf []) ≡ false
 unfolding goodSpeed speedOf unitWords indexOf same figuresOf allOf worthAfter
 speed-none = refl
 
-pub speed-told : Told speedOf goodSpeed (λ (s : Speed). s .unit) 0
-speed-told = told-by speed-reads (λ (s : Speed). s .unit) speed-some speed-none
+pub speed-tells : FieldTells speedOf goodSpeed (λ (s : Speed). s .unit) 0
+speed-tells = tells-by speed-reads (λ (s : Speed). s .unit) speed-some speed-none
 
 intensity-some : (n : ℕ) → goodIntensity n ≡ true → n ≡ 0 → ⊥
 unfolding intensityWords
@@ -201,14 +198,10 @@ intensity-none : goodIntensity (intensityOf []) ≡ false
 unfolding intensityWords indexOf same
 intensity-none = refl
 
-pub intensity-told : Told intensityOf goodIntensity (λ (n : ℕ). n) 0
-intensity-told = told-by intensity-reads (λ (n : ℕ). n) intensity-some intensity-none
+pub intensity-tells : FieldTells intensityOf goodIntensity (λ (n : ℕ). n) 0
+intensity-tells = tells-by intensity-reads (λ (n : ℕ). n) intensity-some intensity-none
 
--- Readers whose test is not of the word alone: a keyword that is wanted, a period that cancels, the time of a forecast.
-
-pub keyword-none : (wanted : ℕ) → 1 ≤ wanted → eqb wanted (keywordOf []) ≡ false
-unfolding shortKeywords longKeywords keywords indexOf same
-keyword-none wanted h = ne-eqb wanted 0 (λ z. omega arith)
+-- Readers whose test is not of the word alone: a period that cancels, the time of a forecast.
 
 pub cancelled-none : (l : FirstLine) (s : Sequence) → cancels l s (periodOf []) ≡ false
 unfolding cancels

@@ -13,6 +13,7 @@ use Rattle.message.specs.declared.Record.{Record}
 use Rattle.grammar.specs.Runs.{Ran, runAt}
 use Rattle.grammar.specs.Runs.Ran.{accepted, refused}
 use Rattle.grammar.specs.States.{State}
+use Rattle.grammar.specs.States.State.{atEnd}
 
 -- the run goes on from that place in that state, or the word at that place is refused by that number
 abbrev pub goesOn : ℕ → ℕ → State → List ℕ → Ran
@@ -29,6 +30,10 @@ pub record Goes (s : State) (t : List ℕ) (at number place : ℕ) (next : State
 -- … one that is over
 pub record Ends (s : State) (t : List ℕ) (at number place : ℕ) (r : Record) : Type 0 where
   pub says : runAt s t at ≡ concluded number place r
+
+-- the `=`: number 12 where there is a word instead
+pub record EndAt (t : List ℕ) (at number place : ℕ) : Type 0 where
+  pub says : (r : Record) → Ends (atEnd r) t at number place r
 
 -- the next word of the text from a place on
 abbrev pub wordFrom : List ℕ → ℕ → List ℕ

@@ -9,8 +9,8 @@ use lib.Dec.{eqb}
 use lib.ListN.{length}
 use Rattle.lists.specs.Choice.{pick}
 use Rattle.lists.specs.Lists.{same}
-use Rattle.keywords.specs.Keywords.{keywordOf}
 use Rattle.words.specs.Words.{spanOf}
+use Rattle.figures.specs.Codes.{FixedWord}
 use Rattle.message.specs.declared.Record.{Record}
 use Rattle.grammar.specs.Numbers.{numberOf}
 use Rattle.grammar.specs.Runs.{Ran, runAt}
@@ -20,7 +20,6 @@ use Rattle.grammar.specs.States.Move.{goes}
 use Rattle.grammar.specs.States.State.{atEnd}
 use Rattle.grammar.specs.Steps.{goesIf, step}
 use Rattle.reader_sections.specs.Going.{concluded, wordFrom, WordAt}
-use Rattle.reader_sections.specs.Kinds.{FixedWord}
 use Rattle.reader_sections.specs.declared.steps.Step.{Step}
 
 -- the run at a step
@@ -69,10 +68,10 @@ pub record TakesFixed (code refusal : ℕ) (t : List ℕ) (from to : Step) : Typ
   pub went : {k : List ℕ} → FixedWord k code → to .number ≡ 0 → from .number ≡ 0
   pub stands : Stands t to
 
--- … of more than seven bytes, by its number among the keywords
-pub record TakesLong (wanted refusal : ℕ) (t : List ℕ) (from to : Step) : Type 0 where
+-- … of more than seven bytes
+pub record TakesLong (wanted : List ℕ) (refusal : ℕ) (t : List ℕ) (from to : Step) : Type 0 where
   pub says : (s next : State)
-      → (from .number ≡ 0 → step s (wordFrom t (from .place)) ≡ goesIf (eqb wanted (keywordOf (wordFrom t (from .place)))) next) → numberOf s ≡ refusal → Leads s t from to next
+      → (from .number ≡ 0 → step s (wordFrom t (from .place)) ≡ goesIf (same (wordFrom t (from .place)) wanted) next) → numberOf s ≡ refusal → Leads s t from to next
   pub stands : Stands t to
 
 -- perhaps a fixed word: where the next word is another, the run goes on before it, as what is next required

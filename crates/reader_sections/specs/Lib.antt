@@ -1,5 +1,4 @@
 pub mod Going
-pub mod Kinds
 pub mod Leading
 pub mod Heads
 pub mod Naming

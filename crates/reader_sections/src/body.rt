@@ -2,8 +2,6 @@
 ghost use Rattle.reader_sections.specs.Bodies.{TestBodySays, LongTestBodySays, CancellationBodySays, BodySays};
 ghost use Rattle.reader_sections.specs.Leading.{Stands};
 use crate::cancellation::read_cancellation;
-use crate::codes;
-use crate::empties::no_report;
 use crate::report::read_report;
 use crate::steps::Step;
 use crate::steps::code_of;
@@ -14,6 +12,7 @@ use crate::test_texts::read_test;
 use groups::Time;
 use message::FirstLine;
 use message::Form;
+use message::NO_REPORT;
 use message::Report;
 
 pub(crate) struct BodyRead {
@@ -27,13 +26,12 @@ fn test_body(text: &[u8], from: Step) -> BodyRead
     requires { ⌜ Stands (now text) from ⌝ }
     ensures { λ r. ⌜ TestBodySays (now (text .entry)) from (r .step) (r .form) (r .report) ⌝ }
 {
-    let t = read_test(text, from);
-    let step = concluding(t.step);
-    let report = no_report();
+    let tested = read_test(text, from);
+    let step = concluding(tested.step);
     BodyRead {
         step,
-        form: Form::Test(t.test),
-        report,
+        form: Form::Test(tested.test),
+        report: NO_REPORT,
     }
 }
 
@@ -42,13 +40,11 @@ fn long_test_body(text: &[u8], from: Step) -> BodyRead
     requires { ⌜ Stands (now text) from ⌝ }
     ensures { λ r. ⌜ LongTestBodySays (now (text .entry)) from (r .step) (r .form) (r .report) ⌝ }
 {
-    let t = read_long_test(text, from);
-    let step = concluding(t);
-    let report = no_report();
+    let step = concluding(read_long_test(text, from));
     BodyRead {
         step,
         form: Form::Test(3),
-        report,
+        report: NO_REPORT,
     }
 }
 
@@ -57,30 +53,30 @@ fn cancellation_body(text: &[u8], from: Step, line: FirstLine) -> BodyRead
     requires { ⌜ Stands (now text) from ⌝ }
     ensures { λ r. ⌜ CancellationBodySays line (now (text .entry)) from (r .step) (r .form) (r .report) ⌝ }
 {
-    let c = read_cancellation(text, from, line);
-    let sequence = c.sequence;
-    let from = c.from;
-    let step = concluding(c.step);
-    let report = no_report();
+    let target = read_cancellation(text, from, line);
+    let sequence = target.sequence;
+    let start = target.from;
+    let step = concluding(target.step);
     BodyRead {
         step,
-        form: Form::Cancellation(sequence, from),
-        report,
+        form: Form::Cancellation(sequence, start),
+        report: NO_REPORT,
     }
 }
 
+// A word that begins neither a test nor a cancellation is judged as a phenomenon.
 pub(crate) fn read_body(text: &[u8], from: Step, kind: u8, line: FirstLine, closing: u8) -> BodyRead
     requires { ⌜ Stands (now text) from ⌝ }
     ensures { λ r. ⌜ BodySays kind line closing (now (text .entry)) from (r .step) (r .form) (r .report) ⌝ }
 {
     let code = code_of(text, from);
-    if code == codes::TEST {
+    if code == vocabulary::TEST {
         return test_body(text, step_at(text, from.end));
     }
-    if code == codes::TEST_STOP {
+    if code == vocabulary::TEST_STOP {
         return long_test_body(text, step_at(text, from.end));
     }
-    if code == codes::CNL {
+    if code == vocabulary::CNL {
         return cancellation_body(text, step_at(text, from.end), line);
     }
     let valid = line.valid;
@@ -89,9 +85,9 @@ pub(crate) fn read_body(text: &[u8], from: Step, kind: u8, line: FirstLine, clos
         hour: to.hour,
         minute: to.minute,
     };
-    let r = read_report(text, from, kind, closing, until);
-    let step = r.step;
-    let report = r.report;
+    let reported = read_report(text, from, kind, closing, until);
+    let step = reported.step;
+    let report = reported.report;
     BodyRead {
         step,
         form: Form::Reported,

@@ -4,7 +4,7 @@ ghost use Rattle.groups.specs.Groups.{periodOf};
 ghost use Rattle.grammar.specs.Steps.{cancels as cancelsOf};
 ghost use Rattle.reader_sections.specs.Forms.{CancellationSays};
 ghost use Rattle.reader_sections.specs.Leading.{Stands, Takes};
-use crate::codes;
+use crate::parts;
 use crate::required_words::PeriodRead;
 use crate::required_words::sequence_at;
 use crate::steps::Step;
@@ -37,6 +37,7 @@ fn cancels(line: FirstLine, sequence: Sequence, period: Period) -> bool
     both(good_period(period), both(ends, !itself))
 }
 
+// The period of a message that the bulletin may cancel.
 fn cancelled_at(text: &[u8], from: Step, line: FirstLine, sequence: Sequence) -> PeriodRead
     requires { ⌜ Stands (now text) from ⌝ }
     ensures { λ r. ⌜ Takes periodOf (cancelsOf line sequence) 7 (now (text .entry)) from (r .step) (r .period) ⌝ }
@@ -44,21 +45,21 @@ fn cancelled_at(text: &[u8], from: Step, line: FirstLine, sequence: Sequence) ->
     let start = from.place;
     let end = from.end;
     let period = period_word(&text[start..end]);
-    let step = judged(text, from, cancels(line, sequence, period), 7);
+    let step = judged(text, from, cancels(line, sequence, period), parts::FORM);
     PeriodRead { step, period }
 }
 
-// What follows `CNL`.
+// What follows CNL.
 pub(crate) fn read_cancellation(text: &[u8], from: Step, line: FirstLine) -> CancellationRead
     requires { ⌜ Stands (now text) from ⌝ }
     ensures { λ r. ⌜ CancellationSays line (now (text .entry)) from (r .step) (r .sequence) (r .from) ⌝ }
 {
-    let sigmet = fixed_at(text, from, codes::SIGMET, 7);
-    let s = sequence_at(text, sigmet, 7);
-    let sequence = s.sequence;
-    let p = cancelled_at(text, s.step, line, sequence);
-    let step = p.step;
-    let period = p.period;
+    let sigmet = fixed_at(text, from, vocabulary::SIGMET, parts::FORM);
+    let numbered = sequence_at(text, sigmet, parts::FORM);
+    let sequence = numbered.sequence;
+    let lasting = cancelled_at(text, numbered.step, line, sequence);
+    let step = lasting.step;
+    let period = lasting.period;
     let from = period.from;
     CancellationRead {
         step,

@@ -2,14 +2,12 @@
 ghost use Rattle.groups.specs.Groups.{timeOf};
 ghost use Rattle.reader_sections.specs.Endings.{MovingSays, forecastTime, ForecastSays, EndingSays};
 ghost use Rattle.reader_sections.specs.Leading.{Stands, Takes};
-use crate::codes;
-use crate::empties::no_extent;
+use crate::location::read_location;
+use crate::parts;
 use crate::required_words::TimeRead;
 use crate::required_words::compass_at;
 use crate::required_words::intensity_at;
 use crate::required_words::speed_at;
-use crate::limits;
-use crate::location::read_location;
 use crate::steps::Step;
 use crate::steps::code_of;
 use crate::steps::fixed_at;
@@ -18,9 +16,11 @@ use crate::steps::step_at;
 use groups::Time;
 use groups::good_time;
 use groups::time_word;
+use headings::KIND_WS;
 use lists::both;
 use message::Ending;
 use message::Extent;
+use message::NO_EXTENT;
 
 pub(crate) struct EndingRead {
     pub step: Step,
@@ -33,16 +33,15 @@ fn read_moving(text: &[u8], from: Step) -> EndingRead
     requires { ⌜ Stands (now text) from ⌝ }
     ensures { λ r. ⌜ MovingSays (now (text .entry)) from (r .step) (r .ending) (r .forecast) ⌝ }
 {
-    let point = compass_at(text, from, 11);
-    let fast = speed_at(text, point.step, 11);
-    let i = intensity_at(text, fast.step, 11);
-    let step = i.step;
+    let direction = compass_at(text, from, parts::ENDING);
+    let fast = speed_at(text, direction.step, parts::ENDING);
+    let change = intensity_at(text, fast.step, parts::ENDING);
+    let step = change.step;
     let speed = fast.speed;
-    let forecast = no_extent();
     EndingRead {
         step,
-        ending: Ending::Moving(point.compass, speed, i.intensity),
-        forecast,
+        ending: Ending::Moving(direction.compass, speed, change.intensity),
+        forecast: NO_EXTENT,
     }
 }
 
@@ -55,7 +54,7 @@ fn forecast_time_at(text: &[u8], from: Step, until: Time) -> TimeRead
     let end = from.end;
     let time = time_word(&text[start..end]);
     let same = both(time.hour == until.hour, time.minute == until.minute);
-    let step = judged(text, from, both(good_time(time), same), 11);
+    let step = judged(text, from, both(good_time(time), same), parts::ENDING);
     TimeRead { step, time }
 }
 
@@ -64,37 +63,38 @@ fn read_forecast(text: &[u8], from: Step, closing: u8, until: Time) -> EndingRea
     requires { ⌜ Stands (now text) from ⌝ }
     ensures { λ r. ⌜ ForecastSays closing until (now (text .entry)) from (r .step) (r .ending) (r .forecast) ⌝ }
 {
-    let i = intensity_at(text, from, 11);
-    let fcst = fixed_at(text, i.step, codes::FCST, 11);
-    let at = fixed_at(text, fcst, codes::AT, 11);
-    let t = forecast_time_at(text, at, until);
-    let l = read_location(text, t.step, closing, 11);
-    let step = l.step;
-    let forecast = l.extent;
+    let change = intensity_at(text, from, parts::ENDING);
+    let fcst = fixed_at(text, change.step, vocabulary::FCST, parts::ENDING);
+    let at = fixed_at(text, fcst, vocabulary::AT, parts::ENDING);
+    let timed = forecast_time_at(text, at, until);
+    let located = read_location(text, timed.step, closing, parts::ENDING);
+    let step = located.step;
+    let forecast = located.extent;
     EndingRead {
         step,
-        ending: Ending::Forecast(i.intensity),
+        ending: Ending::Forecast(change.intensity),
         forecast,
     }
 }
 
+// A word that is neither MOV nor STNR is judged, in a WS, as the intensity before a forecast.
 pub(crate) fn read_ending(text: &[u8], from: Step, kind: u8, closing: u8, until: Time) -> EndingRead
     requires { ⌜ Stands (now text) from ⌝ }
     ensures { λ r. ⌜ EndingSays kind closing until (now (text .entry)) from (r .step) (r .ending) (r .forecast) ⌝ }
 {
     let code = code_of(text, from);
-    if code == codes::MOV {
+    if code == vocabulary::MOV {
         return read_moving(text, step_at(text, from.end));
     }
-    if both(kind == limits::WS, code != codes::STNR) {
+    if both(kind == KIND_WS, code != vocabulary::STNR) {
         return read_forecast(text, from, closing, until);
     }
-    let s = intensity_at(text, judged(text, from, code == codes::STNR, 11), 11);
-    let step = s.step;
-    let forecast = no_extent();
+    let still = judged(text, from, code == vocabulary::STNR, parts::ENDING);
+    let change = intensity_at(text, still, parts::ENDING);
+    let step = change.step;
     EndingRead {
         step,
-        ending: Ending::Stationary(s.intensity),
-        forecast,
+        ending: Ending::Stationary(change.intensity),
+        forecast: NO_EXTENT,
     }
 }

@@ -1,7 +1,7 @@
-// First line: four letters (unit), SIGMET, sequence, VALID, group/group, four letters and a hyphen.
+// First line: four letters (unit), SIGMET, sequence, VALID, group/group, four letters and a hyphen (office).
 ghost use Rattle.reader_sections.specs.Heads.{LineSays};
 ghost use Rattle.reader_sections.specs.Leading.{Stands};
-use crate::codes;
+use crate::parts;
 use crate::required_words::letters_at;
 use crate::required_words::office_at;
 use crate::required_words::period_at;
@@ -19,22 +19,22 @@ pub(crate) fn read_line(text: &[u8], from: Step) -> LineRead
     requires { ⌜ Stands (now text) from ⌝ }
     ensures { λ r. ⌜ LineSays (now (text .entry)) from (r .step) (r .line) ⌝ }
 {
-    let u = letters_at(text, from, 5);
-    let sigmet = fixed_at(text, u.step, codes::SIGMET, 5);
-    let s = sequence_at(text, sigmet, 5);
-    let valid = fixed_at(text, s.step, codes::VALID, 5);
-    let p = period_at(text, valid, 5);
-    let o = office_at(text, p.step, 5);
-    let step = o.step;
-    let sequence = s.sequence;
-    let valid = p.period;
+    let unit = letters_at(text, from, parts::FIRST_LINE);
+    let sigmet = fixed_at(text, unit.step, vocabulary::SIGMET, parts::FIRST_LINE);
+    let numbered = sequence_at(text, sigmet, parts::FIRST_LINE);
+    let valid = fixed_at(text, numbered.step, vocabulary::VALID, parts::FIRST_LINE);
+    let lasting = period_at(text, valid, parts::FIRST_LINE);
+    let office = office_at(text, lasting.step, parts::FIRST_LINE);
+    let step = office.step;
+    let sequence = numbered.sequence;
+    let valid = lasting.period;
     LineRead {
         step,
         line: FirstLine {
-            unit: u.letters,
+            unit: unit.letters,
             sequence,
             valid,
-            office: o.office,
+            office: office.office,
         },
     }
 }

@@ -1,6 +1,7 @@
-// Heading: the designator, the centre and the group, then perhaps a correction.
+// Heading: the designator, the centre and the time of sending, then perhaps a correction.
 ghost use Rattle.reader_sections.specs.Heads.{CorrectionSays, HeadingSays};
 ghost use Rattle.reader_sections.specs.Leading.{Stands};
+use crate::parts;
 use crate::required_words::designator_at;
 use crate::required_words::group_at;
 use crate::required_words::letters_at;
@@ -19,7 +20,7 @@ pub(crate) struct HeadingRead {
     pub heading: Heading,
 }
 
-// Where the next word is no correction, it stays for the first line.
+// A word that is no correction stays for the first line.
 fn read_correction(text: &[u8], from: Step) -> CorrectionRead
     requires { ⌜ Stands (now text) from ⌝ }
     ensures { λ r. ⌜ CorrectionSays (now (text .entry)) from (r .step) (r .correction) ⌝ }
@@ -41,20 +42,20 @@ pub(crate) fn read_heading(text: &[u8], from: Step) -> HeadingRead
     requires { ⌜ Stands (now text) from ⌝ }
     ensures { λ r. ⌜ HeadingSays (now (text .entry)) from (r .step) (r .heading) ⌝ }
 {
-    let d = designator_at(text, from, 4);
-    let c = letters_at(text, d.step, 4);
-    let g = group_at(text, c.step, 4);
-    let k = read_correction(text, g.step);
-    let step = k.step;
-    let designator = d.designator;
-    let sent = g.group;
+    let begun = designator_at(text, from, parts::HEADING);
+    let centre = letters_at(text, begun.step, parts::HEADING);
+    let timed = group_at(text, centre.step, parts::HEADING);
+    let corrected = read_correction(text, timed.step);
+    let step = corrected.step;
+    let designator = begun.designator;
+    let sent = timed.group;
     HeadingRead {
         step,
         heading: Heading {
             designator,
-            centre: c.letters,
+            centre: centre.letters,
             sent,
-            correction: k.correction,
+            correction: corrected.correction,
         },
     }
 }

@@ -4,7 +4,7 @@ ghost use Rattle.levels.specs.Levels.{levelOf, goodLevelWord, flight};
 ghost use Rattle.grammar.specs.Steps.{flightOf};
 ghost use Rattle.reader_sections.specs.Leading.{Stands, Takes};
 ghost use Rattle.reader_sections.specs.Reports.{flightIn, TopSays, LevelSays};
-use crate::codes;
+use crate::parts;
 use crate::steps::Step;
 use crate::steps::code_of;
 use crate::steps::judged;
@@ -31,7 +31,7 @@ fn level_at(text: &[u8], from: Step) -> LevelRead
     let start = from.place;
     let end = from.end;
     let level = level_word(&text[start..end]);
-    let step = judged(text, from, !empty_level(level), 10);
+    let step = judged(text, from, !empty_level(level), parts::LEVEL);
     LevelRead { step, level }
 }
 
@@ -60,7 +60,7 @@ fn flight_at(text: &[u8], from: Step) -> FlightRead
     let end = from.end;
     let level = level_word(&text[start..end]);
     let flight = flight_number(level);
-    let step = judged(text, from, flight != 0, 10);
+    let step = judged(text, from, flight != 0, parts::LEVEL);
     FlightRead { step, flight }
 }
 
@@ -69,18 +69,18 @@ fn read_top(text: &[u8], from: Step) -> LevelRead
     requires { ⌜ Stands (now text) from ⌝ }
     ensures { λ r. ⌜ TopSays (now (text .entry)) from (r .step) (r .level) ⌝ }
 {
-    let above = perhaps_at(text, from, codes::ABV);
-    let f = flight_at(text, above.step);
-    let step = f.step;
+    let above = perhaps_at(text, from, vocabulary::ABV);
+    let height = flight_at(text, above.step);
+    let step = height.step;
     if above.found {
         return LevelRead {
             step,
-            level: Level::TopAboveFlight(f.flight),
+            level: Level::TopAboveFlight(height.flight),
         };
     }
     LevelRead {
         step,
-        level: Level::TopFlight(f.flight),
+        level: Level::TopFlight(height.flight),
     }
 }
 
@@ -89,15 +89,15 @@ pub(crate) fn read_level(text: &[u8], from: Step) -> LevelRead
     ensures { λ r. ⌜ LevelSays (now (text .entry)) from (r .step) (r .level) ⌝ }
 {
     let code = code_of(text, from);
-    if code == codes::TOP {
+    if code == vocabulary::TOP {
         return read_top(text, step_at(text, from.end));
     }
-    if code == codes::ABV {
-        let above = flight_at(text, step_at(text, from.end));
-        let step = above.step;
+    if code == vocabulary::ABV {
+        let height = flight_at(text, step_at(text, from.end));
+        let step = height.step;
         return LevelRead {
             step,
-            level: Level::AboveFlight(above.flight),
+            level: Level::AboveFlight(height.flight),
         };
     }
     level_at(text, from)

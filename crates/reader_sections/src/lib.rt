@@ -1,58 +1,61 @@
-// The sections of the reader: the words of a text to a reply. Recursive descent over (text, place), a private module for each section. Each section
-// answers a number and a place: number 0 goes on at the place, any other refuses the word there.
+// The sections of the reader: the words of a text to a reply, by recursive descent. Each section is a private module and reads in the order of the
+// paper's sentence, from one step (`steps`) to another; a refused step stays, so that a section needs no way out of its own.
 ghost use mathlib.Core.Path.{_≡_};
 ghost use Rattle.grammar.specs.Reads.{replyOf};
 ghost use Rattle.grammar.specs.Runs.{runAt};
 ghost use Rattle.grammar.specs.States.State.{atDesignator};
 
 mod area;
-mod phenomenon_wv;
 mod body;
 mod cancellation;
-mod codes;
-mod empties;
 mod ending;
 mod first_line;
-mod required_words;
+mod heading;
 mod level;
-mod limits;
 mod location;
 mod name;
 mod observation;
-mod heading;
 mod outline;
+mod parts;
+mod phenomenon_ws;
+mod phenomenon_wv;
 mod report;
+mod required_words;
 mod steps;
 mod test_texts;
-mod phenomenon_ws;
 
 use area::read_area;
 use body::read_body;
 use first_line::read_line;
 use grammar::Reply;
 use grammar::refusal;
-use message::Record;
 use heading::read_heading;
+use message::Record;
 use steps::step_at;
 
-// The reply to the text before the first `=`: its record, or 4 to 12 at a word.
+// The reply to the text before the first `=`: its record, or 4 to 12 at a word. What is refused up to the area is answered at once, for a bad
+// bulletin mostly is.
 pub fn read_text(text: &[u8]) -> Reply
     ensures { λ r. ⌜ r ≡ replyOf (runAt atDesignator (now (text .entry)) 0) ⌝ }
 {
-    let h = read_heading(text, step_at(text, 0));
-    let l = read_line(text, h.step);
-    let a = read_area(text, l.step);
-    let heading = h.heading;
-    let line = l.line;
-    let area = a.area;
-    let designator = heading.designator;
-    let b = read_body(text, a.step, designator.kind, line, area.closing);
-    let step = b.step;
-    if step.number != 0 {
-        return refusal(step.number, step.place);
+    let headed = read_heading(text, step_at(text, 0));
+    let lined = read_line(text, headed.step);
+    let bounded = read_area(text, lined.step);
+    let reached = bounded.step;
+    if reached.number != 0 {
+        return refusal(reached.number, reached.place);
     }
-    let form = b.form;
-    let report = b.report;
+    let heading = headed.heading;
+    let line = lined.line;
+    let area = bounded.area;
+    let designator = heading.designator;
+    let rest = read_body(text, reached, designator.kind, line, area.closing);
+    let last = rest.step;
+    if last.number != 0 {
+        return refusal(last.number, last.place);
+    }
+    let form = rest.form;
+    let report = rest.report;
     Reply {
         number: 0,
         place: 0,

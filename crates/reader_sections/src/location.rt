@@ -5,13 +5,9 @@ ghost use Rattle.grammar.specs.Records.{bounded as boundedBy};
 ghost use Rattle.grammar.specs.States.Placing.{atLocation, atLatitudeOf, atAnd, atLongitudeOf, atEntire};
 ghost use Rattle.reader_sections.specs.Locations.{SideSays, LocatedSays, LocatedInSays};
 ghost use Rattle.reader_sections.specs.Leading.{Stands};
-use crate::codes;
-use crate::empties::no_extent;
-use crate::empties::no_side;
+use crate::outline::read_outline;
 use crate::required_words::latitude_at;
 use crate::required_words::longitude_at;
-use crate::limits;
-use crate::outline::read_outline;
 use crate::steps::Step;
 use crate::steps::code_of;
 use crate::steps::fixed_at;
@@ -21,7 +17,10 @@ use crate::steps::step_at;
 use message::Bound;
 use message::Extent;
 use message::Location;
+use message::NO_POINTS;
+use message::NO_SIDE;
 use message::Side;
+use names::CLOSED_BY_CTA;
 
 pub(crate) struct LocationRead {
     pub step: Step,
@@ -44,15 +43,13 @@ fn side_letter(code: u64, plus: u8, minus: u8) -> u8
 fn bounded(latitude: Side, longitude: Side) -> Extent
     ensures { λ r. ⌜ r ≡ boundedBy latitude longitude ⌝ }
 {
-    let none = no_extent();
-    let points = none.points;
     let bound = Bound {
         latitude,
         longitude,
     };
     Extent {
         location: Location::Bounded(bound),
-        points,
+        points: NO_POINTS,
     }
 }
 
@@ -61,10 +58,10 @@ fn read_east(text: &[u8], from: Step, north: Side, side: u8, refusal: u8) -> Loc
     requires { ⌜ (Stands (now text) from) × (0 < refusal) ⌝ }
     ensures { λ r. ⌜ LocatedSays (atLongitudeOf north side) refusal (now (text .entry)) from (r .step) (r .extent) ⌝ }
 {
-    let of = fixed_at(text, from, codes::OF, refusal);
-    let c = longitude_at(text, of, refusal);
-    let step = c.step;
-    let at = c.coordinate;
+    let of = fixed_at(text, from, vocabulary::OF, refusal);
+    let meridian = longitude_at(text, of, refusal);
+    let step = meridian.step;
+    let at = meridian.coordinate;
     let east = Side { of: side, at };
     let extent = bounded(north, east);
     LocationRead { step, extent }
@@ -75,11 +72,10 @@ fn read_after_north(text: &[u8], from: Step, north: Side, refusal: u8) -> Locati
     requires { ⌜ (Stands (now text) from) × (0 < refusal) ⌝ }
     ensures { λ r. ⌜ LocatedSays (atAnd north) refusal (now (text .entry)) from (r .step) (r .extent) ⌝ }
 {
-    let and = perhaps_at(text, from, codes::AND);
+    let and = perhaps_at(text, from, vocabulary::AND);
     if !and.found {
         let step = and.step;
-        let none = no_side();
-        let extent = bounded(north, none);
+        let extent = bounded(north, NO_SIDE);
         return LocationRead { step, extent };
     }
     let past = and.step;
@@ -93,11 +89,11 @@ fn read_north(text: &[u8], from: Step, side: u8, refusal: u8) -> LocationRead
     requires { ⌜ (Stands (now text) from) × (0 < refusal) ⌝ }
     ensures { λ r. ⌜ LocatedSays (atLatitudeOf side) refusal (now (text .entry)) from (r .step) (r .extent) ⌝ }
 {
-    let of = fixed_at(text, from, codes::OF, refusal);
-    let c = latitude_at(text, of, refusal);
-    let at = c.coordinate;
+    let of = fixed_at(text, from, vocabulary::OF, refusal);
+    let parallel = latitude_at(text, of, refusal);
+    let at = parallel.coordinate;
     let north = Side { of: side, at };
-    read_after_north(text, c.step, north, refusal)
+    read_after_north(text, parallel.step, north, refusal)
 }
 
 // FIR, or CTA in a CTA, after ENTIRE.
@@ -105,19 +101,17 @@ fn read_entire(text: &[u8], from: Step, closing: u8, refusal: u8) -> LocationRea
     requires { ⌜ (Stands (now text) from) × (0 < refusal) ⌝ }
     ensures { λ r. ⌜ LocatedInSays closing atEntire refusal (now (text .entry)) from (r .step) (r .extent) ⌝ }
 {
-    let name = if closing == limits::CTA {
-        codes::CTA
+    let name = if closing == CLOSED_BY_CTA {
+        vocabulary::CTA
     } else {
-        codes::FIR
+        vocabulary::FIR
     };
     let step = fixed_at(text, from, name, refusal);
-    let none = no_extent();
-    let points = none.points;
     LocationRead {
         step,
         extent: Extent {
             location: Location::Entire,
-            points,
+            points: NO_POINTS,
         },
     }
 }
@@ -134,15 +128,11 @@ pub(crate) fn read_location(text: &[u8], from: Step, closing: u8, refusal: u8) -
     }
     let east = side_letter(code, b'E', b'W');
     if east != 0 {
-        let none = no_side();
-        return read_east(text, step_at(text, from.end), none, east, refusal);
+        return read_east(text, step_at(text, from.end), NO_SIDE, east, refusal);
     }
-    if code == codes::ENTIRE {
+    if code == vocabulary::ENTIRE {
         return read_entire(text, step_at(text, from.end), closing, refusal);
     }
-    read_outline(
-        text,
-        judged(text, from, code == codes::WI, refusal),
-        refusal,
-    )
+    let within = judged(text, from, code == vocabulary::WI, refusal);
+    read_outline(text, within, refusal)
 }

@@ -5,11 +5,11 @@ ghost use Prim.Native.Nat.{_+_, _<_, _≤_};
 ghost use lib.ListN.{length, take, drop};
 ghost use Rattle.reader_sections.specs.Naming.{GrownSays, NameBegins, NameGoesOn, NameFrom, NameSays};
 ghost use Rattle.reader_sections.specs.Leading.{Stands};
-use crate::empties::no_name;
 use crate::steps::Step;
 use crate::steps::span_at;
 use crate::steps::step_at;
 use message::NAME_BYTES;
+use message::NO_NAME;
 use message::Name;
 use names::in_name;
 
@@ -49,7 +49,7 @@ fn first_word(text: &[u8], at: usize, mountain: bool, limit: usize) -> WordRead
     requires { ⌜ (at ≤ length (now text)) × (limit ≤ 50) ⌝ }
     ensures { λ r. ⌜ NameBegins mountain limit (now (text .entry)) at (r .found) (r .place) (r .name) ⌝ }
 {
-    let none = no_name();
+    let none = NO_NAME;
     let next = span_at(text, at);
     let start = next.start;
     let end = next.end;
@@ -163,7 +163,7 @@ pub(crate) fn read_name(
     ensures { λ r. ⌜ NameSays mountain limit refusal (now (text .entry)) from (r .step) (r .name) ⌝ }
 {
     if from.number != 0 {
-        let name = no_name();
+        let name = NO_NAME;
         return NameRead { step: from, name };
     }
     let n = name_at(text, from.place, mountain, limit, refusal);

@@ -1,15 +1,15 @@
 // Observation: OBS or FCST, perhaps AT GGggZ.
 ghost use Rattle.reader_sections.specs.Reports.{ObservedSays, ObservationSays};
 ghost use Rattle.reader_sections.specs.Leading.{Stands};
-use crate::codes;
+use crate::parts;
 use crate::required_words::time_at;
 use crate::steps::Step;
 use crate::steps::code_of;
 use crate::steps::judged;
 use crate::steps::perhaps_at;
 use crate::steps::step_at;
-use groups::Time;
 use message::Observation;
+use message::UNTIMED;
 
 pub(crate) struct ObservationRead {
     pub step: Step,
@@ -21,8 +21,7 @@ fn read_observed(text: &[u8], from: Step, word: u8) -> ObservationRead
     requires { ⌜ Stands (now text) from ⌝ }
     ensures { λ r. ⌜ ObservedSays word (now (text .entry)) from (r .step) (r .observation) ⌝ }
 {
-    let given = perhaps_at(text, from, codes::AT);
-    let none = Time { hour: 0, minute: 0 };
+    let given = perhaps_at(text, from, vocabulary::AT);
     if !given.found {
         let step = given.step;
         return ObservationRead {
@@ -30,13 +29,13 @@ fn read_observed(text: &[u8], from: Step, word: u8) -> ObservationRead
             observation: Observation {
                 word,
                 timed: false,
-                time: none,
+                time: UNTIMED,
             },
         };
     }
-    let t = time_at(text, given.step, 8);
-    let step = t.step;
-    let time = t.time;
+    let clock = time_at(text, given.step, parts::OBSERVATION);
+    let step = clock.step;
+    let time = clock.time;
     ObservationRead {
         step,
         observation: Observation {
@@ -52,8 +51,9 @@ pub(crate) fn read_observation(text: &[u8], from: Step) -> ObservationRead
     ensures { λ r. ⌜ ObservationSays (now (text .entry)) from (r .step) (r .observation) ⌝ }
 {
     let code = code_of(text, from);
-    if code == codes::OBS {
+    if code == vocabulary::OBS {
         return read_observed(text, step_at(text, from.end), 1);
     }
-    read_observed(text, judged(text, from, code == codes::FCST, 8), 2)
+    let forecast = judged(text, from, code == vocabulary::FCST, parts::OBSERVATION);
+    read_observed(text, forecast, 2)
 }

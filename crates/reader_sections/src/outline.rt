@@ -5,12 +5,8 @@ ghost use Rattle.grammar.specs.States.Placing.{atLatitude};
 ghost use Rattle.reader_sections.specs.Locations.{LocatedSays};
 ghost use Rattle.reader_sections.specs.Outlines.{FollowsSays, ClosesSays, LatitudeSays, LongitudeSays, PointSays};
 ghost use Rattle.reader_sections.specs.Leading.{Stands};
-use crate::codes;
-use crate::empties::no_extent;
-use crate::empties::no_point;
-use crate::required_words::CoordinateRead;
-use crate::limits;
 use crate::location::LocationRead;
+use crate::required_words::CoordinateRead;
 use crate::steps::Step;
 use crate::steps::fixed_at;
 use crate::steps::judged;
@@ -23,8 +19,11 @@ use coordinates::same_point;
 use lists::both;
 use lists::either;
 use message::Extent;
+use message::LEAST_POINTS;
 use message::Location;
 use message::MOST_POINTS;
+use message::NO_EXTENT;
+use message::NO_POINTS;
 
 struct PointRead {
     pub step: Step,
@@ -87,7 +86,7 @@ fn next_longitude(
     };
     let closed = closes(first, count, point);
     let fits = if closed {
-        limits::LEAST_POINTS <= count + 1
+        LEAST_POINTS <= count + 1
     } else {
         count + 1 < MOST_POINTS
     };
@@ -110,7 +109,7 @@ fn next_point(text: &[u8], from: Step, first: Point, count: usize, refusal: u8) 
     if p.closed {
         return p;
     }
-    let step = fixed_at(text, p.step, codes::DASH, refusal);
+    let step = fixed_at(text, p.step, vocabulary::DASH, refusal);
     let point = p.point;
     PointRead {
         step,
@@ -124,8 +123,7 @@ pub(crate) fn read_outline(text: &[u8], from: Step, refusal: u8) -> LocationRead
     requires { ⌜ (Stands (now text) from) × (0 < refusal) ⌝ }
     ensures { λ r. ⌜ LocatedSays (atLatitude []) refusal (now (text .entry)) from (r .step) (r .extent) ⌝ }
 {
-    let none = no_point();
-    let mut points = [none; MOST_POINTS];
+    let mut points = NO_POINTS;
     let mut count: usize = 0;
     let mut step = from;
     loop {
@@ -133,8 +131,10 @@ pub(crate) fn read_outline(text: &[u8], from: Step, refusal: u8) -> LocationRead
         let next = next_point(text, step, first, count, refusal);
         step = next.step;
         if step.number != 0 {
-            let extent = no_extent();
-            return LocationRead { step, extent };
+            return LocationRead {
+                step,
+                extent: NO_EXTENT,
+            };
         }
         let point = next.point;
         points[count] = point;

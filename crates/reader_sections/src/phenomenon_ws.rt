@@ -1,9 +1,9 @@
-// Phenomenon of a WS: its number, in the paper's order.
+// Phenomenon of a WS, kept by its number in the paper's order: two words, and `SEV ICE (FZRA)` of three.
 ghost use Prim.Native.Nat.{_≤_};
 ghost use Rattle.grammar.specs.States.State.{atStorm, atSevere, atHeavy, atRadioactive};
 ghost use Rattle.reader_sections.specs.Phenomena.{WeatherFrom, WeatherSays};
 ghost use Rattle.reader_sections.specs.Leading.{Stands};
-use crate::codes;
+use crate::parts;
 use crate::steps::Step;
 use crate::steps::code_of;
 use crate::steps::fixed_at;
@@ -11,6 +11,14 @@ use crate::steps::judged;
 use crate::steps::perhaps_at;
 use crate::steps::step_at;
 use figures::find;
+
+// The first words of a storm, in the paper's order.
+const STORMS: [u64; 4] = [
+    vocabulary::OBSC,
+    vocabulary::EMBD,
+    vocabulary::FRQ,
+    vocabulary::SQL,
+];
 
 pub(crate) struct WeatherRead {
     pub step: Step,
@@ -23,14 +31,14 @@ fn read_storm(text: &[u8], from: Step, storm: u8) -> WeatherRead
     ensures { λ r. ⌜ WeatherFrom (λ o. atStorm o storm) (now (text .entry)) from (r .step) (r .phenomenon) ⌝ }
 {
     let code = code_of(text, from);
-    if code == codes::TS {
+    if code == vocabulary::TS {
         let step = step_at(text, from.end);
         return WeatherRead {
             step,
             phenomenon: 2 * storm - 1,
         };
     }
-    let step = judged(text, from, code == codes::TSGR, 7);
+    let step = judged(text, from, code == vocabulary::TSGR, parts::FORM);
     WeatherRead {
         step,
         phenomenon: 2 * storm,
@@ -43,25 +51,22 @@ fn read_severe(text: &[u8], from: Step) -> WeatherRead
     ensures { λ r. ⌜ WeatherFrom atSevere (now (text .entry)) from (r .step) (r .phenomenon) ⌝ }
 {
     let code = code_of(text, from);
-    if code == codes::TURB {
+    if code == vocabulary::TURB {
         let step = step_at(text, from.end);
         return WeatherRead {
             step,
             phenomenon: 9,
         };
     }
-    if code == codes::MTW {
+    if code == vocabulary::MTW {
         let step = step_at(text, from.end);
         return WeatherRead {
             step,
             phenomenon: 12,
         };
     }
-    let rain = perhaps_at(
-        text,
-        judged(text, from, code == codes::ICE, 7),
-        codes::FREEZING_RAIN,
-    );
+    let ice = judged(text, from, code == vocabulary::ICE, parts::FORM);
+    let rain = perhaps_at(text, ice, vocabulary::FREEZING_RAIN);
     let step = rain.step;
     if rain.found {
         return WeatherRead {
@@ -81,14 +86,14 @@ fn read_heavy(text: &[u8], from: Step) -> WeatherRead
     ensures { λ r. ⌜ WeatherFrom atHeavy (now (text .entry)) from (r .step) (r .phenomenon) ⌝ }
 {
     let code = code_of(text, from);
-    if code == codes::DS {
+    if code == vocabulary::DS {
         let step = step_at(text, from.end);
         return WeatherRead {
             step,
             phenomenon: 13,
         };
     }
-    let step = judged(text, from, code == codes::SS, 7);
+    let step = judged(text, from, code == vocabulary::SS, parts::FORM);
     WeatherRead {
         step,
         phenomenon: 14,
@@ -100,7 +105,7 @@ fn read_radioactive(text: &[u8], from: Step) -> WeatherRead
     requires { ⌜ Stands (now text) from ⌝ }
     ensures { λ r. ⌜ WeatherFrom atRadioactive (now (text .entry)) from (r .step) (r .phenomenon) ⌝ }
 {
-    let step = fixed_at(text, from, codes::CLD, 7);
+    let step = fixed_at(text, from, vocabulary::CLD, parts::FORM);
     WeatherRead {
         step,
         phenomenon: 15,
@@ -112,15 +117,16 @@ pub(crate) fn read_weather(text: &[u8], from: Step) -> WeatherRead
     ensures { λ r. ⌜ WeatherSays (now (text .entry)) from (r .step) (r .phenomenon) ⌝ }
 {
     let code = code_of(text, from);
-    let storm = find(&codes::STORMS, code);
+    let storm = find(&STORMS, code);
     if storm < 4 {
         return read_storm(text, step_at(text, from.end), (storm + 1) as u8);
     }
-    if code == codes::SEV {
+    if code == vocabulary::SEV {
         return read_severe(text, step_at(text, from.end));
     }
-    if code == codes::HVY {
+    if code == vocabulary::HVY {
         return read_heavy(text, step_at(text, from.end));
     }
-    read_radioactive(text, judged(text, from, code == codes::RDOACT, 7))
+    let cloud = judged(text, from, code == vocabulary::RDOACT, parts::FORM);
+    read_radioactive(text, cloud)
 }

@@ -1,18 +1,19 @@
 // A report: phenomenon, observation, location, level, then the ending and the `=`.
-ghost use Rattle.reader_sections.specs.Reports.{PhenomenonSays, ReportSays};
 ghost use Rattle.reader_sections.specs.Leading.{Stands};
-use crate::phenomenon_wv::PhenomenonRead;
-use crate::phenomenon_wv::read_ash;
-use crate::empties::no_volcano;
+ghost use Rattle.reader_sections.specs.Reports.{PhenomenonSays, ReportSays};
 use crate::ending::read_ending;
 use crate::level::read_level;
-use crate::limits;
 use crate::location::read_location;
 use crate::observation::read_observation;
+use crate::parts;
+use crate::phenomenon_ws::read_weather;
+use crate::phenomenon_wv::PhenomenonRead;
+use crate::phenomenon_wv::read_ash;
 use crate::steps::Step;
 use crate::steps::concluding;
-use crate::phenomenon_ws::read_weather;
 use groups::Time;
+use headings::KIND_WS;
+use message::NO_VOLCANO;
 use message::Report;
 
 pub(crate) struct ReportRead {
@@ -25,14 +26,13 @@ fn read_phenomenon(text: &[u8], from: Step, kind: u8) -> PhenomenonRead
     requires { ⌜ Stands (now text) from ⌝ }
     ensures { λ r. ⌜ PhenomenonSays kind (now (text .entry)) from (r .step) (r .phenomenon) (r .volcano) ⌝ }
 {
-    if kind == limits::WS {
-        let w = read_weather(text, from);
-        let step = w.step;
-        let volcano = no_volcano();
+    if kind == KIND_WS {
+        let weather = read_weather(text, from);
+        let step = weather.step;
         return PhenomenonRead {
             step,
-            phenomenon: w.phenomenon,
-            volcano,
+            phenomenon: weather.phenomenon,
+            volcano: NO_VOLCANO,
         };
     }
     read_ash(text, from)
@@ -42,22 +42,22 @@ pub(crate) fn read_report(text: &[u8], from: Step, kind: u8, closing: u8, until:
     requires { ⌜ Stands (now text) from ⌝ }
     ensures { λ r. ⌜ ReportSays kind closing until (now (text .entry)) from (r .step) (r .report) ⌝ }
 {
-    let p = read_phenomenon(text, from, kind);
-    let o = read_observation(text, p.step);
-    let l = read_location(text, o.step, closing, 9);
-    let v = read_level(text, l.step);
-    let e = read_ending(text, v.step, kind, closing, until);
-    let step = concluding(e.step);
-    let volcano = p.volcano;
-    let observation = o.observation;
-    let extent = l.extent;
-    let level = v.level;
-    let ending = e.ending;
-    let forecast = e.forecast;
+    let what = read_phenomenon(text, from, kind);
+    let seen = read_observation(text, what.step);
+    let located = read_location(text, seen.step, closing, parts::LOCATION);
+    let high = read_level(text, located.step);
+    let ended = read_ending(text, high.step, kind, closing, until);
+    let step = concluding(ended.step);
+    let volcano = what.volcano;
+    let observation = seen.observation;
+    let extent = located.extent;
+    let level = high.level;
+    let ending = ended.ending;
+    let forecast = ended.forecast;
     ReportRead {
         step,
         report: Report {
-            phenomenon: p.phenomenon,
+            phenomenon: what.phenomenon,
             volcano,
             observation,
             extent,

@@ -7,8 +7,9 @@ ghost use Rattle.lists.specs.Lists.{part};
 ghost use Rattle.figures.specs.Codes.{codeOf};
 ghost use Rattle.reader_sections.specs.Going.{WordAt};
 ghost use Rattle.reader_sections.specs.Leading.{Stands, Before, Judged, TakesFixed, TakesLong, MayTake, Closes};
+use crate::parts;
 use figures::code;
-use keywords::keyword;
+use vocabulary::same_word;
 use words::Span;
 use words::word_at;
 
@@ -96,15 +97,15 @@ pub(crate) fn perhaps_at(text: &[u8], from: Step, wanted: u64) -> PerhapsRead
     }
 }
 
-// A fixed word of more than seven bytes, by its number among the keywords.
-pub(crate) fn long_at(text: &[u8], from: Step, wanted: u8, refusal: u8) -> Step
-    requires { ⌜ (Stands (now text) from) × ((1 ≤ wanted) × (0 < refusal)) ⌝ }
-    ensures { λ r. ⌜ TakesLong wanted refusal (now (text .entry)) from r ⌝ }
+// A fixed word of more than seven bytes, which has no code.
+pub(crate) fn long_at(text: &[u8], from: Step, wanted: &[u8], refusal: u8) -> Step
+    requires { ⌜ (Stands (now text) from) × ((0 < length (now wanted)) × (0 < refusal)) ⌝ }
+    ensures { λ r. ⌜ TakesLong (now (wanted .entry)) refusal (now (text .entry)) from r ⌝ }
 {
     let start = from.place;
     let end = from.end;
-    let found = keyword(&text[start..end]);
-    judged(text, from, wanted == found, refusal)
+    let found = same_word(&text[start..end], wanted);
+    judged(text, from, found, refusal)
 }
 
 // The `=`.
@@ -122,7 +123,7 @@ pub(crate) fn concluding(from: Step) -> Step
         };
     }
     Step {
-        number: 12,
+        number: parts::END,
         place: from.place,
         end: from.place,
     }

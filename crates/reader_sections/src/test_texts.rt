@@ -1,7 +1,7 @@
 // A test: TEST, or TEST SIGMET PLEASE DISREGARD, or TEST. THIS IS A TEST SIGMET, PLEASE DISREGARD.
 ghost use Rattle.reader_sections.specs.Forms.{PleaseSays, TestSays, LongTestSays};
 ghost use Rattle.reader_sections.specs.Leading.{Stands};
-use crate::codes;
+use crate::parts;
 use crate::steps::Step;
 use crate::steps::fixed_at;
 use crate::steps::long_at;
@@ -17,12 +17,8 @@ fn read_please(text: &[u8], from: Step) -> Step
     requires { ⌜ Stands (now text) from ⌝ }
     ensures { λ r. ⌜ PleaseSays (now (text .entry)) from r ⌝ }
 {
-    long_at(
-        text,
-        fixed_at(text, from, codes::PLEASE, 7),
-        codes::DISREGARD,
-        7,
-    )
+    let please = fixed_at(text, from, vocabulary::PLEASE, parts::FORM);
+    long_at(text, please, &vocabulary::DISREGARD, parts::FORM)
 }
 
 // The text after `TEST.`.
@@ -30,11 +26,11 @@ pub(crate) fn read_long_test(text: &[u8], from: Step) -> Step
     requires { ⌜ Stands (now text) from ⌝ }
     ensures { λ r. ⌜ LongTestSays (now (text .entry)) from r ⌝ }
 {
-    let this = fixed_at(text, from, codes::THIS, 7);
-    let is = fixed_at(text, this, codes::IS, 7);
-    let a = fixed_at(text, is, codes::A, 7);
-    let test = fixed_at(text, a, codes::TEST, 7);
-    let sigmet = fixed_at(text, test, codes::SIGMET_COMMA, 7);
+    let this = fixed_at(text, from, vocabulary::THIS, parts::FORM);
+    let is = fixed_at(text, this, vocabulary::IS, parts::FORM);
+    let a = fixed_at(text, is, vocabulary::A, parts::FORM);
+    let test = fixed_at(text, a, vocabulary::TEST, parts::FORM);
+    let sigmet = fixed_at(text, test, vocabulary::SIGMET_COMMA, parts::FORM);
     read_please(text, sigmet)
 }
 
@@ -43,7 +39,7 @@ pub(crate) fn read_test(text: &[u8], from: Step) -> TestRead
     requires { ⌜ Stands (now text) from ⌝ }
     ensures { λ r. ⌜ TestSays (now (text .entry)) from (r .step) (r .test) ⌝ }
 {
-    let sigmet = perhaps_at(text, from, codes::SIGMET);
+    let sigmet = perhaps_at(text, from, vocabulary::SIGMET);
     if !sigmet.found {
         let step = sigmet.step;
         return TestRead { step, test: 1 };

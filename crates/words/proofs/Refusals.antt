@@ -15,7 +15,7 @@ use Rattle.lists.specs.Choice.{either}
 use Rattle.lists.specs.Lists.{indexOf, indexFrom, allOf}
 use Rattle.lists.proofs.Choice.{by, either-left, either-right}
 use Rattle.lists.proofs.Lists.{index-within, index-found, index-clear, index-past, index-none, index-all, all-append, all-take, all-weaken, all-not-not}
-use Rattle.words.specs.Bytes.{allowed, letter, digit, stroke, bracket, blank, solid, equals, barred}
+use Rattle.words.specs.Bytes.{allowed, letter, digit, punctuation, bracket, blank, solid, equals, barred}
 use Rattle.words.specs.Check.{checkOf, barredAt, equalsAt, afterAt}
 use Rattle.words.specs.declared.Checked.{Checked}
 
@@ -119,7 +119,7 @@ check-readable b = check-cases (λ (r : Checked). r .number ≡ 0 → Readable b
 
 blank-allowed : (x : ℕ) → blank x ≡ true → allowed x ≡ true
 unfolding allowed
-blank-allowed x e = either-right (letter x) (either-right (digit x) (either-left (either (stroke x) (either (bracket x) (equals x))) e))
+blank-allowed x e = either-right (letter x) (either-right (digit x) (either-left (either (punctuation x) (either (bracket x) (equals x))) e))
 
 module _ (t s : List ℕ) (good : allOf allowed t ≡ true) (free : allOf (λ (x : ℕ). not (equals x)) t ≡ true) (after : allOf blank s ≡ true) where
   text-allowed : allOf allowed (t ++ (61 ∷ s)) ≡ true

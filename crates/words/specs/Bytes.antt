@@ -27,8 +27,8 @@ abbrev pub solid : ℕ → Bool
 solid x = not (blank x)
 
 -- `/ - . ,`
-abbrev pub stroke : ℕ → Bool
-stroke x = either (eqb x (code "/")) (either (eqb x (code "-")) (either (eqb x (code ".")) (eqb x (code ","))))
+abbrev pub punctuation : ℕ → Bool
+punctuation x = either (eqb x (code "/")) (either (eqb x (code "-")) (either (eqb x (code ".")) (eqb x (code ","))))
 
 -- `( )`
 abbrev pub bracket : ℕ → Bool
@@ -40,7 +40,7 @@ equals x = eqb x (code "=")
 
 -- "A-Z, 0-9, space, CR, LF and `/ - . , ( ) =`"
 unfoldable pub allowed : ℕ → Bool
-allowed x = either (letter x) (either (digit x) (either (blank x) (either (stroke x) (either (bracket x) (equals x)))))
+allowed x = either (letter x) (either (digit x) (either (blank x) (either (punctuation x) (either (bracket x) (equals x)))))
 
 abbrev pub barred : ℕ → Bool
 barred x = not (allowed x)

@@ -11,18 +11,17 @@ pub(crate) fn is_blank(x: u8) -> bool
     either(x == b' ', either(x == b'\r', x == b'\n'))
 }
 
+// Letters and digits are asked for first: most bytes are one of them.
 pub(crate) fn is_allowed(x: u8) -> bool
     ensures { λ r. ⌜ r ≡ allowed x ⌝ }
 {
-    let letter = is_letter(x);
-    let digit = is_digit(x);
-    let point = either(x == b'/', either(x == b'-', either(x == b'.', x == b',')));
+    if is_letter(x) {
+        return true;
+    }
+    if is_digit(x) {
+        return true;
+    }
+    let punctuation = either(x == b'/', either(x == b'-', either(x == b'.', x == b',')));
     let bracket = either(x == b'(', x == b')');
-    either(
-        letter,
-        either(
-            digit,
-            either(is_blank(x), either(point, either(bracket, x == b'='))),
-        ),
-    )
+    either(is_blank(x), either(punctuation, either(bracket, x == b'=')))
 }

@@ -9,19 +9,19 @@ ghost use Rattle.writer_sections.specs.Sections.{goodText};
 mod area;
 mod ending;
 mod form;
+mod heading;
 mod level;
 mod location;
 mod observation;
-mod heading;
 mod phenomenon;
 mod report;
 
 use area::put_area;
 use form::put_form;
-use message::Record;
-use message::is_good;
 use heading::put_heading;
 use heading::put_line;
+use message::Record;
+use message::is_good;
 use pens::put_all;
 
 fn put_body(out: &mut [u8], at: usize, r: Record) -> usize

@@ -6,7 +6,7 @@ use Rattle.message.specs.declared.FirstLine.{FirstLine}
 use Rattle.grammar.specs.States.State.{atForm, atTest, atTestText, atCancelSigmet}
 use Rattle.grammar.specs.Steps.{stepForm, step}
 use Rattle.reader_sections.proofs.Leads.{at-last, goes-code, code-going, code-yes, code-no}
-use Rattle.reader_sections.proofs.FixedWords.{fixed-test, fixed-test-stop, fixed-cnl}
+use Rattle.vocabulary.proofs.FixedWords.{fixed-test, fixed-test-stop, fixed-cnl}
 use Rattle.reader_sections.proofs.body.read_body.Statement.{statement}
 use Rattle.reader_sections.proofs.body.read_body.Tie as tie
 
@@ -24,9 +24,9 @@ unfolding step stepForm
 returns c =
     let f = c .before .before .before .before .before .pre in
     let i = c .before .before .before .code-of .ensures in
-    let told = c .before .before .if1 .taken in
+    let takes-by-field = c .before .before .if1 .taken in
     record {
-      says = λ o e l a. at-last (goes-code f i fixed-test told (c .before .step-at .ensures) (atForm o) (atTest o) (rw (code-yes f i fixed-test told))) (c .test-body .ensures .says o);
+      says = λ o e l a. at-last (goes-code f i fixed-test takes-by-field (c .before .step-at .ensures) (atForm o) (atTest o) (rw (code-yes f i fixed-test takes-by-field))) (c .test-body .ensures .says o);
     }
 
 step-at-requires-2 : tie.Need-step-at-requires-2
@@ -40,12 +40,12 @@ unfolding step stepForm
 returns-2 c =
     let f = c .before .before .before .before .before .before .pre in
     let i = c .before .before .before .before .code-of .ensures in
-    let told = c .before .before .if2 .taken in
-    let z = code-going f i fixed-test-stop told in
+    let takes-by-field = c .before .before .if2 .taken in
+    let z = code-going f i fixed-test-stop takes-by-field in
     record {
       says = λ o e l a. at-last
-          (goes-code f i fixed-test-stop told (c .before .step-at2 .ensures) (atForm o) (atTestText o 3 1)
-          (rw (code-no f i z fixed-test (c .before .before .before .if1 .left), code-yes f i fixed-test-stop told)))
+          (goes-code f i fixed-test-stop takes-by-field (c .before .step-at2 .ensures) (atForm o) (atTestText o 3 1)
+          (rw (code-no f i z fixed-test (c .before .before .before .if1 .left), code-yes f i fixed-test-stop takes-by-field)))
           (c .long-test-body .ensures .says o);
     }
 
@@ -60,12 +60,12 @@ unfolding step stepForm
 returns-3 c =
     let f = c .before .before .before .before .before .before .before .pre in
     let i = c .before .before .before .before .before .code-of .ensures in
-    let told = c .before .before .if3 .taken in
-    let z = code-going f i fixed-cnl told in
+    let takes-by-field = c .before .before .if3 .taken in
+    let z = code-going f i fixed-cnl takes-by-field in
     record {
       says = λ o e l a. at-last
-          (goes-code f i fixed-cnl told (c .before .step-at3 .ensures) (atForm o) (atCancelSigmet o)
-          (rw (code-no f i z fixed-test (c .before .before .before .before .if1 .left), code-no f i z fixed-test-stop (c .before .before .before .if2 .left), code-yes f i fixed-cnl told)))
+          (goes-code f i fixed-cnl takes-by-field (c .before .step-at3 .ensures) (atForm o) (atCancelSigmet o)
+          (rw (code-no f i z fixed-test (c .before .before .before .before .if1 .left), code-no f i z fixed-test-stop (c .before .before .before .if2 .left), code-yes f i fixed-cnl takes-by-field)))
           (c .cancellation-body .ensures .says o l);
     }
 

@@ -5,7 +5,7 @@ use Rattle.grammar.specs.Records.{cancellationOf}
 use Rattle.grammar.specs.States.State.{atCancelSigmet, atCancelSequence, atCancelPeriod, atEnd}
 use Rattle.grammar.specs.Steps.{step}
 use Rattle.reader_sections.proofs.Leads.{then}
-use Rattle.reader_sections.proofs.FixedWords.{fixed-sigmet}
+use Rattle.vocabulary.proofs.FixedWords.{fixed-sigmet}
 use Rattle.reader_sections.proofs.cancellation.read_cancellation.Statement.{statement}
 use Rattle.reader_sections.proofs.cancellation.read_cancellation.Tie as tie
 

@@ -10,7 +10,7 @@ use Rattle.grammar.specs.States.State.{atEnding, atCompass, atStationary, atEnd
 use Rattle.grammar.specs.Steps.{kindOf, stepEnding, step}
 use Rattle.lists.proofs.Choice.{by}
 use Rattle.reader_sections.proofs.Leads.{then, goes-code, code-yes, code-no, takes-fixed}
-use Rattle.reader_sections.proofs.FixedWords.{fixed-mov, fixed-stnr}
+use Rattle.vocabulary.proofs.FixedWords.{fixed-mov, fixed-stnr}
 use Rattle.reader_sections.proofs.FirstWords.{both-these, not-both}
 use Rattle.reader_sections.proofs.ending.read_ending.Statement.{statement}
 use Rattle.reader_sections.proofs.ending.read_ending.Tie as tie
@@ -46,10 +46,10 @@ unfolding step stepEnding
 returns-2 c =
     let f = c .before .before .before .before .before .before .pre in
     let i = c .before .before .before .before .code-of .ensures in
-    let told = both-these _ _ _ _ (sym (c .before .before .both .ensures) ∙ c .before .if2 .taken) in
+    let takes-by-field = both-these _ _ _ _ (sym (c .before .before .both .ensures) ∙ c .before .if2 .taken) in
     record {
       says = λ l w a e. c .read-forecast .ensures .says l a e
-          (λ z. rw (code-no f i z fixed-mov (c .before .before .before .if1 .left), code-no f i z fixed-stnr (told .1), eq-eqb (kindOf (areaOf l)) 2 (w ∙ told .0)));
+          (λ z. rw (code-no f i z fixed-mov (c .before .before .before .if1 .left), code-no f i z fixed-stnr (takes-by-field .1), eq-eqb (kindOf (areaOf l)) 2 (w ∙ takes-by-field .0)));
       stands = search needs;
     }
 
@@ -67,7 +67,7 @@ unfolding step stepEnding
 returns-3 c =
     let f = c .before .before .before .before .before .before .before .before .before .pre in
     let i = c .before .before .before .before .before .before .before .code-of .ensures in
-    let told = not-both (c .before .before .before .before .before .before .before .before .before .args .kind) 2 (c .before .before .before .before .before .before .before .code-of .result) 0x0153544e52 (sym (c .before .before .before .before .before .both .ensures) ∙ c .before .before .before .before .if2 .left) in
+    let takes-by-field = not-both (c .before .before .before .before .before .before .before .before .before .args .kind) 2 (c .before .before .before .before .before .before .before .code-of .result) 0x0153544e52 (sym (c .before .before .before .before .before .both .ensures) ∙ c .before .before .before .before .if2 .left) in
     record {
       says = λ l w a e. rw (c .no-extent .ensures)
           (then
@@ -77,7 +77,7 @@ returns-3 c =
           (λ y. rw (
             code-no f i z fixed-mov (c .before .before .before .before .before .before .if1 .left),
             code-no f i z fixed-stnr (eqb-false _ _ y),
-            ne-eqb (kindOf (areaOf l)) 2 (λ q. told (eqb-false _ _ y) (sym w ∙ q)),
+            ne-eqb (kindOf (areaOf l)) 2 (λ q. takes-by-field (eqb-false _ _ y) (sym w ∙ q)),
           )))
           refl)
           (c .before .before .intensity-at .ensures .says (atStationary l) (λ s. atEnd (reportOf l (Stationary s) noExtent)) (λ z. refl) refl));

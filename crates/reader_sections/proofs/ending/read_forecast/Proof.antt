@@ -6,7 +6,7 @@ use Rattle.grammar.specs.States.Site.{inForecast}
 use Rattle.grammar.specs.States.State.{atEnding, atForecast, atForecastAt, atForecastTime, atPlace}
 use Rattle.grammar.specs.Steps.{step}
 use Rattle.reader_sections.proofs.Leads.{then}
-use Rattle.reader_sections.proofs.FixedWords.{fixed-fcst, fixed-at}
+use Rattle.vocabulary.proofs.FixedWords.{fixed-fcst, fixed-at}
 use Rattle.reader_sections.proofs.FirstWords.{time-judged}
 use Rattle.reader_sections.proofs.ending.read_forecast.Statement.{statement}
 use Rattle.reader_sections.proofs.ending.read_forecast.Tie as tie

@@ -5,7 +5,7 @@ use Rattle.levels.specs.declared.Level.the-variants.{AboveFlight}
 use Rattle.grammar.specs.States.State.{atLevel, atTop, atAbove}
 use Rattle.grammar.specs.Steps.{levelled, stepLevel, step}
 use Rattle.reader_sections.proofs.Leads.{then, goes-code, code-going, code-yes, code-no}
-use Rattle.reader_sections.proofs.FixedWords.{fixed-top, fixed-abv}
+use Rattle.vocabulary.proofs.FixedWords.{fixed-top, fixed-abv}
 use Rattle.reader_sections.proofs.level.read_level.Statement.{statement}
 use Rattle.reader_sections.proofs.level.read_level.Tie as tie
 

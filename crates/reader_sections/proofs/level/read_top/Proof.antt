@@ -5,7 +5,7 @@ use Rattle.levels.specs.declared.Level.the-variants.{TopFlight, TopAboveFlight}
 use Rattle.grammar.specs.States.State.{atTop, atTopAbove}
 use Rattle.grammar.specs.Steps.{levelled, step}
 use Rattle.reader_sections.proofs.Leads.{then}
-use Rattle.reader_sections.proofs.FixedWords.{fixed-abv}
+use Rattle.vocabulary.proofs.FixedWords.{fixed-abv}
 use Rattle.reader_sections.proofs.level.read_top.Statement.{statement}
 use Rattle.reader_sections.proofs.level.read_top.Tie as tie
 

@@ -11,7 +11,7 @@ use Rattle.grammar.specs.States.Placing.{atAnd, atSecondBound, atLongitudeOf}
 use Rattle.grammar.specs.States.State.{atPlace}
 use Rattle.grammar.specs.Steps.{after}
 use Rattle.reader_sections.proofs.Leads.{then}
-use Rattle.reader_sections.proofs.FixedWords.{fixed-and}
+use Rattle.vocabulary.proofs.FixedWords.{fixed-and}
 use Rattle.reader_sections.proofs.Sides.{following-number, on-step, past-step, takes-on, takes-side, side-if}
 use Rattle.reader_sections.proofs.location.read_after_north.Statement.{statement}
 use Rattle.reader_sections.proofs.location.read_after_north.Tie as tie

@@ -4,7 +4,7 @@ use mathlib.Core.Logic.{⊎-elim}
 use Rattle.grammar.specs.Placing.{entireWord, placeStep}
 use Rattle.grammar.specs.Records.{entirely}
 use Rattle.grammar.specs.States.Placing.{atEntire}
-use Rattle.reader_sections.specs.Kinds.{FixedWord}
+use Rattle.figures.specs.Codes.{FixedWord}
 use Rattle.reader_sections.proofs.Sides.{fixed-there, entire-cta, entire-fir}
 use Rattle.reader_sections.proofs.location.read_entire.Statement.{statement}
 use Rattle.reader_sections.proofs.location.read_entire.Tie as tie

@@ -7,7 +7,7 @@ use Rattle.grammar.specs.Placing.{locating, placeStep}
 use Rattle.grammar.specs.States.Placing.{atLocation, atLatitudeOf, atLongitudeOf, atEntire, atLatitude}
 use Rattle.grammar.specs.States.State.{atPlace}
 use Rattle.reader_sections.proofs.Leads.{then, goes-code, code-going, code-yes, code-no, takes-fixed}
-use Rattle.reader_sections.proofs.FixedWords.{fixed-entire, fixed-wi}
+use Rattle.vocabulary.proofs.FixedWords.{fixed-entire, fixed-wi}
 use Rattle.reader_sections.proofs.Sides.{on-step, fixed-on, side-going, side-no, side-on}
 use Rattle.reader_sections.proofs.location.read_location.Statement.{statement}
 use Rattle.reader_sections.proofs.location.read_location.Tie as tie

@@ -4,7 +4,7 @@ use mathlib.Core.Path.{refl}
 use Rattle.grammar.specs.States.State.{atObservation, atObserved}
 use Rattle.grammar.specs.Steps.{step}
 use Rattle.reader_sections.proofs.Leads.{then, goes-code, code-yes, code-no, takes-fixed}
-use Rattle.reader_sections.proofs.FixedWords.{fixed-obs, fixed-fcst}
+use Rattle.vocabulary.proofs.FixedWords.{fixed-obs, fixed-fcst}
 use Rattle.reader_sections.proofs.observation.read_observation.Statement.{statement}
 use Rattle.reader_sections.proofs.observation.read_observation.Tie as tie
 

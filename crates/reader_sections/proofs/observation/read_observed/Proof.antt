@@ -8,7 +8,7 @@ use Rattle.grammar.specs.States.Site.{inReport}
 use Rattle.grammar.specs.States.State.{atObserved, atObservedTime, atPlace}
 use Rattle.grammar.specs.Steps.{step}
 use Rattle.reader_sections.proofs.Leads.{then}
-use Rattle.reader_sections.proofs.FixedWords.{fixed-at}
+use Rattle.vocabulary.proofs.FixedWords.{fixed-at}
 use Rattle.reader_sections.proofs.observation.read_observed.Statement.{statement}
 use Rattle.reader_sections.proofs.observation.read_observed.Tie as tie
 

@@ -3,7 +3,7 @@ use borrow.Author.Needs.{needs}
 use mathlib.Core.Bool.{false}
 use mathlib.Core.Path.{refl}
 use Rattle.lists.proofs.Choice.{clash}
-use Rattle.reader_sections.proofs.FixedWords.{fixed-dash}
+use Rattle.vocabulary.proofs.FixedWords.{fixed-dash}
 use Rattle.reader_sections.proofs.OutlineLaws.{point-closing, point-going}
 use Rattle.reader_sections.proofs.outline.next_point.Statement.{statement}
 use Rattle.reader_sections.proofs.outline.next_point.Tie as tie

@@ -3,7 +3,7 @@ use borrow.Author.Needs.{needs}
 use mathlib.Core.Path.{refl}
 use Rattle.grammar.specs.States.State.{atRadioactive}
 use Rattle.grammar.specs.Steps.{step}
-use Rattle.reader_sections.proofs.FixedWords.{fixed-cld}
+use Rattle.vocabulary.proofs.FixedWords.{fixed-cld}
 use Rattle.reader_sections.proofs.phenomenon_ws.read_radioactive.Statement.{statement}
 use Rattle.reader_sections.proofs.phenomenon_ws.read_radioactive.Tie as tie
 

@@ -5,7 +5,7 @@ use native.Mathlib.Omega.{arith}
 use Rattle.grammar.specs.States.State.{atSevere, atIce}
 use Rattle.grammar.specs.Steps.{step}
 use Rattle.reader_sections.proofs.Leads.{then, goes-code, code-going, code-yes, code-no, takes-fixed}
-use Rattle.reader_sections.proofs.FixedWords.{fixed-turb, fixed-mtw, fixed-ice, fixed-freezing-rain}
+use Rattle.vocabulary.proofs.FixedWords.{fixed-turb, fixed-mtw, fixed-ice, fixed-freezing-rain}
 use Rattle.reader_sections.proofs.phenomenon_ws.read_severe.Statement.{statement}
 use Rattle.reader_sections.proofs.phenomenon_ws.read_severe.Tie as tie
 

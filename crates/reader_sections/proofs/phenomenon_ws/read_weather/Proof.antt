@@ -1,4 +1,4 @@
--- `read_weather` meets its contract: a storm is told by its place in the table of codes, and the rest is a choice by codes. Assumes nothing.
+-- `read_weather` meets its contract: a storm is takes-by-field by its place in the table of codes, and the rest is a choice by codes. Assumes nothing.
 use borrow.Author.Needs.{needs}
 use mathlib.Core.Path.{refl, _∙_}
 use Rattle.lists.specs.Base.{worthAfter}
@@ -7,8 +7,8 @@ use Rattle.figures.specs.Codes.{codeOf}
 use Rattle.grammar.specs.States.State.{atForm, atSevere, atHeavy, atRadioactive}
 use Rattle.grammar.specs.Steps.{stormWords}
 use Rattle.reader_sections.proofs.Leads.{then, goes-code, code-going, code-yes, code-no, takes-fixed}
-use Rattle.reader_sections.proofs.FixedWords.{fixed-sev, fixed-hvy, fixed-rdoact}
-use Rattle.reader_sections.proofs.Forming.{goes-storm, no-storm}
+use Rattle.vocabulary.proofs.FixedWords.{fixed-sev, fixed-hvy, fixed-rdoact}
+use Rattle.reader_sections.proofs.Storms.{goes-storm, no-storm}
 use Rattle.reader_sections.proofs.phenomenon_ws.read_weather.Statement.{statement}
 use Rattle.reader_sections.proofs.phenomenon_ws.read_weather.Tie as tie
 

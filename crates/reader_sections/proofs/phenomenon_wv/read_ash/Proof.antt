@@ -4,8 +4,8 @@ use mathlib.Core.Path.{refl}
 use Rattle.grammar.specs.States.State.{atForm, atAsh, atEruption}
 use Rattle.grammar.specs.Steps.{step}
 use Rattle.reader_sections.proofs.Leads.{then}
-use Rattle.reader_sections.proofs.FixedWords.{fixed-va, fixed-cld}
-use Rattle.reader_sections.proofs.Forming.{eruption-told}
+use Rattle.vocabulary.proofs.FixedWords.{fixed-va, fixed-cld}
+use Rattle.reader_sections.proofs.Storms.{eruption-tells}
 use Rattle.reader_sections.proofs.phenomenon_wv.read_ash.Statement.{statement}
 use Rattle.reader_sections.proofs.phenomenon_wv.read_ash.Tie as tie
 
@@ -40,7 +40,7 @@ returns-2 c =
     record {
       says = λ o j. then (c .before .before .before .before .fixed-at .ensures .says _ fixed-va (atForm o) (atAsh o) j refl)
           (then (cloud .without (c .before .before .if1 .left) _ fixed-cld (atAsh o) (atAsh o) (λ z n. refl) refl)
-          (then (c .before .long-at .ensures .says (atAsh o) (atEruption o) (λ z. rw (cloud .other (c .before .before .if1 .left) _ fixed-cld z, eruption-told)) refl)
+          (then (c .before .long-at .ensures .says (atAsh o) (atEruption o) (λ z. rw (cloud .other (c .before .before .if1 .left) _ fixed-cld z, eruption-tells)) refl)
           (c .read-eruption .ensures .says o)));
       stands = search needs;
     }

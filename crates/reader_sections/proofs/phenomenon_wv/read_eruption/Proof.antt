@@ -4,7 +4,7 @@ use mathlib.Core.Path.{refl}
 use Rattle.grammar.specs.States.State.{atPosition, atPositionLongitude, atVolcanoAsh, atVolcanoCloud}
 use Rattle.grammar.specs.Steps.{step}
 use Rattle.reader_sections.proofs.Leads.{then}
-use Rattle.reader_sections.proofs.FixedWords.{fixed-va, fixed-cld}
+use Rattle.vocabulary.proofs.FixedWords.{fixed-va, fixed-cld}
 use Rattle.reader_sections.proofs.phenomenon_wv.read_eruption.Statement.{statement}
 use Rattle.reader_sections.proofs.phenomenon_wv.read_eruption.Tie as tie
 

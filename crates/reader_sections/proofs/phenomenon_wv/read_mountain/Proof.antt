@@ -7,7 +7,7 @@ use Rattle.message.specs.Names.{noName}
 use Rattle.grammar.specs.States.State.{atEruption, atMountain, atMoreMountain, atPosition}
 use Rattle.grammar.specs.Steps.{step}
 use Rattle.reader_sections.proofs.Leads.{then}
-use Rattle.reader_sections.proofs.FixedWords.{fixed-mt, fixed-psn}
+use Rattle.vocabulary.proofs.FixedWords.{fixed-mt, fixed-psn}
 use Rattle.reader_sections.proofs.NameText.{mountainClosed, mountain-takes, name-closed}
 use Rattle.reader_sections.proofs.phenomenon_wv.read_mountain.Statement.{statement}
 use Rattle.reader_sections.proofs.phenomenon_wv.read_mountain.Tie as tie

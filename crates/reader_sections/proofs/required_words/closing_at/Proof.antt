@@ -1,7 +1,7 @@
 -- `closing_at` meets its contract. Assumes nothing.
 use borrow.Author.Needs.{needs}
-use Rattle.reader_sections.proofs.Leads.{told}
-use Rattle.reader_sections.proofs.Tells.{closing-told}
+use Rattle.reader_sections.proofs.Leads.{takes-by-field}
+use Rattle.reader_sections.proofs.Tells.{closing-tells}
 use Rattle.reader_sections.proofs.required_words.closing_at.Statement.{statement}
 use Rattle.reader_sections.proofs.required_words.closing_at.Tie as tie
 
@@ -21,7 +21,7 @@ judged-requires : tie.Need-judged-requires
 judged-requires c κs = search needs
 
 returns : tie.Need-returns
-returns c = told closing-told (c .before .before .before .before .pre .0) (c .before .closing-word .ensures) (c .judged .ensures)
+returns c = takes-by-field closing-tells (c .before .before .before .before .pre .0) (c .before .closing-word .ensures) (c .judged .ensures)
 
 pub closing-at-spec : {M : Type 1} → statement M
 closing-at-spec =

@@ -1,7 +1,7 @@
 -- `compass_at` meets its contract. Assumes nothing.
 use borrow.Author.Needs.{needs}
-use Rattle.reader_sections.proofs.Leads.{told}
-use Rattle.reader_sections.proofs.Tells.{compass-told}
+use Rattle.reader_sections.proofs.Leads.{takes-by-field}
+use Rattle.reader_sections.proofs.Tells.{compass-tells}
 use Rattle.reader_sections.proofs.required_words.compass_at.Statement.{statement}
 use Rattle.reader_sections.proofs.required_words.compass_at.Tie as tie
 
@@ -21,7 +21,7 @@ judged-requires : tie.Need-judged-requires
 judged-requires c κs = search needs
 
 returns : tie.Need-returns
-returns c = told compass-told (c .before .before .before .before .pre .0) (c .before .compass-word .ensures) (c .judged .ensures)
+returns c = takes-by-field compass-tells (c .before .before .before .before .pre .0) (c .before .compass-word .ensures) (c .judged .ensures)
 
 pub compass-at-spec : {M : Type 1} → statement M
 compass-at-spec =

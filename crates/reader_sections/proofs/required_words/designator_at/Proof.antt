@@ -1,7 +1,7 @@
 -- `designator_at` meets its contract. Assumes nothing.
 use borrow.Author.Needs.{needs}
-use Rattle.reader_sections.proofs.Leads.{told}
-use Rattle.reader_sections.proofs.Tells.{designator-told}
+use Rattle.reader_sections.proofs.Leads.{takes-by-field}
+use Rattle.reader_sections.proofs.Tells.{designator-tells}
 use Rattle.reader_sections.proofs.required_words.designator_at.Statement.{statement}
 use Rattle.reader_sections.proofs.required_words.designator_at.Tie as tie
 
@@ -21,7 +21,7 @@ judged-requires : tie.Need-judged-requires
 judged-requires c κs = search needs
 
 returns : tie.Need-returns
-returns c = told designator-told (c .before .before .before .before .before .pre .0) (c .before .before .designator-word .ensures) (c .judged .ensures)
+returns c = takes-by-field designator-tells (c .before .before .before .before .before .pre .0) (c .before .before .designator-word .ensures) (c .judged .ensures)
 
 pub designator-at-spec : {M : Type 1} → statement M
 designator-at-spec =

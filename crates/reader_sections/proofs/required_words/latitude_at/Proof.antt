@@ -1,7 +1,7 @@
 -- `latitude_at` meets its contract. Assumes nothing.
 use borrow.Author.Needs.{needs}
-use Rattle.reader_sections.proofs.Leads.{told}
-use Rattle.reader_sections.proofs.Tells.{latitude-told}
+use Rattle.reader_sections.proofs.Leads.{takes-by-field}
+use Rattle.reader_sections.proofs.Tells.{latitude-tells}
 use Rattle.reader_sections.proofs.required_words.latitude_at.Statement.{statement}
 use Rattle.reader_sections.proofs.required_words.latitude_at.Tie as tie
 
@@ -21,7 +21,7 @@ judged-requires : tie.Need-judged-requires
 judged-requires c κs = search needs
 
 returns : tie.Need-returns
-returns c = told latitude-told (c .before .before .before .before .before .pre .0) (c .before .before .latitude .ensures) (c .judged .ensures)
+returns c = takes-by-field latitude-tells (c .before .before .before .before .before .pre .0) (c .before .before .latitude .ensures) (c .judged .ensures)
 
 pub latitude-at-spec : {M : Type 1} → statement M
 latitude-at-spec =

@@ -1,7 +1,7 @@
 -- `letters_at` meets its contract. Assumes nothing.
 use borrow.Author.Needs.{needs}
-use Rattle.reader_sections.proofs.Leads.{told}
-use Rattle.reader_sections.proofs.Tells.{letters-told}
+use Rattle.reader_sections.proofs.Leads.{takes-by-field}
+use Rattle.reader_sections.proofs.Tells.{letters-tells}
 use Rattle.reader_sections.proofs.required_words.letters_at.Statement.{statement}
 use Rattle.reader_sections.proofs.required_words.letters_at.Tie as tie
 
@@ -21,7 +21,7 @@ judged-requires : tie.Need-judged-requires
 judged-requires c κs = search needs
 
 returns : tie.Need-returns
-returns c = told letters-told (c .before .before .before .before .pre .0) (c .before .letters .ensures) (c .judged .ensures)
+returns c = search (takes-by-field letters-tells, needs)
 
 pub letters-at-spec : {M : Type 1} → statement M
 letters-at-spec =

@@ -1,7 +1,7 @@
 -- `longitude_at` meets its contract. Assumes nothing.
 use borrow.Author.Needs.{needs}
-use Rattle.reader_sections.proofs.Leads.{told}
-use Rattle.reader_sections.proofs.Tells.{longitude-told}
+use Rattle.reader_sections.proofs.Leads.{takes-by-field}
+use Rattle.reader_sections.proofs.Tells.{longitude-tells}
 use Rattle.reader_sections.proofs.required_words.longitude_at.Statement.{statement}
 use Rattle.reader_sections.proofs.required_words.longitude_at.Tie as tie
 
@@ -21,7 +21,7 @@ judged-requires : tie.Need-judged-requires
 judged-requires c κs = search needs
 
 returns : tie.Need-returns
-returns c = told longitude-told (c .before .before .before .before .before .pre .0) (c .before .before .longitude .ensures) (c .judged .ensures)
+returns c = takes-by-field longitude-tells (c .before .before .before .before .before .pre .0) (c .before .before .longitude .ensures) (c .judged .ensures)
 
 pub longitude-at-spec : {M : Type 1} → statement M
 longitude-at-spec =

@@ -1,7 +1,7 @@
 -- `office_at` meets its contract. Assumes nothing.
 use borrow.Author.Needs.{needs}
-use Rattle.reader_sections.proofs.Leads.{told}
-use Rattle.reader_sections.proofs.Tells.{office-told}
+use Rattle.reader_sections.proofs.Leads.{takes-by-field}
+use Rattle.reader_sections.proofs.Tells.{office-tells}
 use Rattle.reader_sections.proofs.required_words.office_at.Statement.{statement}
 use Rattle.reader_sections.proofs.required_words.office_at.Tie as tie
 
@@ -21,7 +21,7 @@ judged-requires : tie.Need-judged-requires
 judged-requires c κs = search needs
 
 returns : tie.Need-returns
-returns c = search (told, office-told, needs)
+returns c = search (takes-by-field, office-tells, needs)
 
 pub office-at-spec : {M : Type 1} → statement M
 office-at-spec =

@@ -1,7 +1,7 @@
 -- `sequence_at` meets its contract. Assumes nothing.
 use borrow.Author.Needs.{needs}
-use Rattle.reader_sections.proofs.Leads.{told}
-use Rattle.reader_sections.proofs.Tells.{sequence-told}
+use Rattle.reader_sections.proofs.Leads.{takes-by-field}
+use Rattle.reader_sections.proofs.Tells.{sequence-tells}
 use Rattle.reader_sections.proofs.required_words.sequence_at.Statement.{statement}
 use Rattle.reader_sections.proofs.required_words.sequence_at.Tie as tie
 
@@ -21,7 +21,7 @@ judged-requires : tie.Need-judged-requires
 judged-requires c κs = search needs
 
 returns : tie.Need-returns
-returns c = told sequence-told (c .before .before .before .before .before .pre .0) (c .before .before .sequence-word .ensures) (c .judged .ensures)
+returns c = takes-by-field sequence-tells (c .before .before .before .before .before .pre .0) (c .before .before .sequence-word .ensures) (c .judged .ensures)
 
 pub sequence-at-spec : {M : Type 1} → statement M
 sequence-at-spec =

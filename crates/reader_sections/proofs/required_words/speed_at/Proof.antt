@@ -1,7 +1,7 @@
 -- `speed_at` meets its contract. Assumes nothing.
 use borrow.Author.Needs.{needs}
-use Rattle.reader_sections.proofs.Leads.{told}
-use Rattle.reader_sections.proofs.Tells.{speed-told}
+use Rattle.reader_sections.proofs.Leads.{takes-by-field}
+use Rattle.reader_sections.proofs.Tells.{speed-tells}
 use Rattle.reader_sections.proofs.required_words.speed_at.Statement.{statement}
 use Rattle.reader_sections.proofs.required_words.speed_at.Tie as tie
 
@@ -21,7 +21,7 @@ judged-requires : tie.Need-judged-requires
 judged-requires c κs = search needs
 
 returns : tie.Need-returns
-returns c = told speed-told (c .before .before .before .before .before .pre .0) (c .before .before .speed-word .ensures) (c .judged .ensures)
+returns c = takes-by-field speed-tells (c .before .before .before .before .before .pre .0) (c .before .before .speed-word .ensures) (c .judged .ensures)
 
 pub speed-at-spec : {M : Type 1} → statement M
 speed-at-spec =

@@ -1,7 +1,7 @@
 -- `time_at` meets its contract. Assumes nothing.
 use borrow.Author.Needs.{needs}
-use Rattle.reader_sections.proofs.Leads.{told}
-use Rattle.reader_sections.proofs.Tells.{time-told}
+use Rattle.reader_sections.proofs.Leads.{takes-by-field}
+use Rattle.reader_sections.proofs.Tells.{time-tells}
 use Rattle.reader_sections.proofs.required_words.time_at.Statement.{statement}
 use Rattle.reader_sections.proofs.required_words.time_at.Tie as tie
 
@@ -21,7 +21,7 @@ judged-requires : tie.Need-judged-requires
 judged-requires c κs = search needs
 
 returns : tie.Need-returns
-returns c = told time-told (c .before .before .before .before .before .pre .0) (c .before .before .time-word .ensures) (c .judged .ensures)
+returns c = takes-by-field time-tells (c .before .before .before .before .before .pre .0) (c .before .before .time-word .ensures) (c .judged .ensures)
 
 pub time-at-spec : {M : Type 1} → statement M
 time-at-spec =

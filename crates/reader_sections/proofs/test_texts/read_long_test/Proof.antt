@@ -5,7 +5,7 @@ use Rattle.message.specs.Words.{testTexts}
 use Rattle.grammar.specs.States.State.{atTestText}
 use Rattle.grammar.specs.Steps.{step}
 use Rattle.reader_sections.proofs.Leads.{then}
-use Rattle.reader_sections.proofs.FixedWords.{fixed-test, fixed-this, fixed-is, fixed-a, fixed-sigmet-comma}
+use Rattle.vocabulary.proofs.FixedWords.{fixed-test, fixed-this, fixed-is, fixed-a, fixed-sigmet-comma}
 use Rattle.reader_sections.proofs.test_texts.read_long_test.Statement.{statement}
 use Rattle.reader_sections.proofs.test_texts.read_long_test.Tie as tie
 

@@ -5,7 +5,7 @@ use borrow.Author.Tests.{not-true, not-false}
 use Rattle.grammar.specs.States.State.{atTest, atTestText}
 use Rattle.grammar.specs.Steps.{step}
 use Rattle.reader_sections.proofs.Leads.{then}
-use Rattle.reader_sections.proofs.FixedWords.{fixed-sigmet}
+use Rattle.vocabulary.proofs.FixedWords.{fixed-sigmet}
 use Rattle.reader_sections.proofs.test_texts.read_test.Statement.{statement}
 use Rattle.reader_sections.proofs.test_texts.read_test.Tie as tie
 

@@ -1,23 +1,18 @@
--- What the forms of a message do with a word that the code tells by its code, by its number among the keywords or by its place in a table.
+-- The first words of a storm, which the code tells by the place of a word's code among theirs.
 -- Assumes nothing.
 use mathlib.Core.Bool.{true, false}
 use mathlib.Core.List.{List, [], map}
-use mathlib.Core.Path.{_≡_, refl, ap, sym, _∙_, subst}
+use mathlib.Core.Path.{_≡_, refl, ap, sym, _∙_}
 use Prim.Native.Nat.{ℕ, _+_, _-_, _≤_, _<_}
 use native.Mathlib.Omega.{arith}
 use lib.Dec.{eqb}
 use lib.ListN.{length}
-use borrow.Author.Tests.{lt-ltb, le-ltb, le-leb, eq-eqb, ne-eqb}
+use borrow.Author.Tests.{lt-ltb, le-ltb, le-leb}
 use Rattle.lists.specs.Lists.{allOf, indexOf, part, same}
-use Rattle.lists.specs.Text.{bytes}
-use Rattle.lists.proofs.Choice.{by, clash, both-true}
-use Rattle.lists.proofs.Lists.{same-refl, same-is}
+use Rattle.lists.proofs.Choice.{clash, both-true}
 use Rattle.figures.specs.Codes.{short, codeOf}
 use Rattle.figures.specs.Tables.{wordIn}
 use Rattle.figures.proofs.TableLaws.{find-word}
-use Rattle.figures.proofs.ReadsLaws.{reads-spelled}
-use Rattle.keywords.specs.Keywords.{shortKeywords, longKeywords, keywords, keywordOf, goodKeyword, spellKeyword}
-use Rattle.keywords.proofs.KeywordLaws.{keyword-reads}
 use Rattle.grammar.specs.States.{ToArea}
 use Rattle.grammar.specs.States.State.{atForm, atStorm}
 use Rattle.grammar.specs.Steps.{stormWords, stormOf, goodStorm, stepWeather, step}
@@ -27,28 +22,6 @@ use Rattle.reader_sections.specs.declared.steps.Step.{Step}
 use Rattle.reader_sections.proofs.Going.{some-word}
 use Rattle.reader_sections.proofs.KindLaws.{part-is, goes-word}
 use Rattle.reader_sections.proofs.Leads.{whether, nothing, standing, past-leads}
-
--- A keyword, by its number.
-
-keyword-spelled : (n : ℕ) (w : List ℕ) → goodKeyword n ≡ true → n ≡ keywordOf w → same w (spellKeyword n) ≡ true
-keyword-spelled n w g e =
-    ap (same w) (ap spellKeyword e ∙ reads-spelled keyword-reads w (subst (λ (m : ℕ). goodKeyword m ≡ true) e g)) ∙ same-refl w
-
-keyword-told : (n : ℕ) (w : List ℕ) → goodKeyword n ≡ true → same w (spellKeyword n) ≡ eqb n (keywordOf w)
-keyword-told n w g =
-    by (same w (spellKeyword n))
-    (λ e. e ∙ sym (eq-eqb n (keywordOf w) (sym (ap keywordOf (same-is w (spellKeyword n) e) ∙ keyword-reads .forth n g))))
-    (λ f. f ∙ sym (ne-eqb n (keywordOf w) (λ z. clash (same w (spellKeyword n)) (keyword-spelled n w g z) f)))
-
-pub eruption-told : (w : List ℕ) → same w (bytes "ERUPTION") ≡ eqb 42 (keywordOf w)
-unfolding keywords shortKeywords longKeywords
-eruption-told w = keyword-told 42 w refl
-
-pub disregard-told : (w : List ℕ) → same w (bytes "DISREGARD") ≡ eqb 43 (keywordOf w)
-unfolding keywords shortKeywords longKeywords
-disregard-told w = keyword-told 43 w refl
-
--- The storms' first words, by the place of a word's code among theirs.
 
 storms-short : allOf short stormWords ≡ true
 unfolding stormWords allOf
