@@ -5,7 +5,6 @@ use mathlib.Core.Path.{_≡_, sym, _∙_}
 use Prim.Native.Nat.{ℕ}
 use borrow.Author.Tests.{eq-eqb, ne-eqb}
 use Rattle.message.specs.declared.Record.{Record}
-use Rattle.grammar.specs.Reads.{replyOf, acceptance, refusal}
 use Rattle.grammar.specs.Runs.{runAt}
 use Rattle.grammar.specs.Runs.Ran.{accepted, refused}
 use Rattle.grammar.specs.States.{State}
@@ -31,11 +30,3 @@ module _ {s mid : State} {t : List ℕ} {at number place : ℕ} (g : Goes s t at
   -- refused: whatever would have come
   pub off-ends : {r : Record} → (number ≡ 0 → ⊥) → Ends s t at number place r
   off-ends {r} e = record { says = g .says ∙ (goes-refused number place mid t e ∙ sym (concluded-refused number place r e)) }
-
--- the reply of a message that is over
-module _ {s : State} {t : List ℕ} {at number place : ℕ} {r : Record} (g : Ends s t at number place r) where
-  pub ends-refused : (number ≡ 0 → ⊥) → replyOf (runAt s t at) ≡ refusal number place
-  ends-refused e = rw (g .says ∙ concluded-refused number place r e)
-
-  pub ends-accepted : number ≡ 0 → replyOf (runAt s t at) ≡ acceptance r
-  ends-accepted e = rw (g .says ∙ concluded-zero number place r e)

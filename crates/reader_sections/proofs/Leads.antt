@@ -3,7 +3,7 @@
 use mathlib.Core.Bool.{Bool, true, false, not}
 use mathlib.Core.List.{List, [], _∷_}
 use mathlib.Core.Path.{_≡_, refl, ap, sym, _∙_}
-use Prim.Native.Nat.{ℕ, _-_, _≤_, _<_}
+use Prim.Native.Nat.{ℕ, _-_, _≤_, _<_, zero-le}
 use native.Mathlib.Omega.{arith}
 use lib.Dec.{eqb}
 use lib.ListN.{length}
@@ -14,13 +14,14 @@ use Rattle.figures.specs.Codes.{codeOf}
 use Rattle.figures.proofs.CodeLaws.{same-code}
 use Rattle.headings.specs.Headings.{correctionOf, goodCorrection}
 use Rattle.message.specs.declared.Record.{Record}
+use Rattle.grammar.specs.Reads.{replyOf, acceptance, refusal}
 use Rattle.grammar.specs.Runs.{runAt}
 use Rattle.grammar.specs.Runs.Ran.{refused}
 use Rattle.grammar.specs.States.{State}
 use Rattle.grammar.specs.States.Move.{goes}
 use Rattle.grammar.specs.States.State.{atEnd, atCorrection, atUnit}
 use Rattle.grammar.specs.Steps.{step}
-use Rattle.reader_sections.specs.Going.{EndAt, Goes, Ends, wordFrom, WordAt}
+use Rattle.reader_sections.specs.Going.{EndAt, Goes, wordFrom, WordAt}
 use Rattle.reader_sections.specs.Heads.{CorrectionSays}
 use Rattle.figures.specs.Codes.{FixedWord}
 use Rattle.reader_sections.specs.Leading.{runOn, Leads, Finishes, Stands, Before, Judged, Takes, TakesFixed, TakesLong, MayTake, Closes}
@@ -72,9 +73,18 @@ standing f = omega (arith, f .ordered, f .within)
 pub before-run : {t : List ℕ} {at : ℕ} {to : Step} (s : State) → at ≤ length t → Before t at to → runAt s t at ≡ runOn s t to
 before-run {t} {at} {to} s h p = skip s t at h ∙ (ap (runAt s t) (sym (p .placed)) ∙ sym (on-going s t to (p .going)))
 
--- from the beginning of a text
-pub as-ends : {s : State} {t : List ℕ} {at : ℕ} {from to : Step} {r : Record} → at ≤ length t → Before t at from → Finishes s t from to r → Ends s t at (to .number) (to .place) r
-as-ends {s} h p g = record { says = before-run s h p ∙ g .says }
+-- the reply to a text, from the step before its first word on
+module _ {s : State} {t : List ℕ} {start to : Step} (b : Before t 0 start) where
+  -- refused on the way
+  pub replied : {next : State} → Leads s t start to next → (to .number ≡ 0 → ⊥) → replyOf (runAt s t 0) ≡ refusal (to .number) (to .place)
+  replied {next} g z = rw (before-run s zero-le b ∙ (g .says ∙ on-refused next t to z))
+
+  module _ {r : Record} (g : Finishes s t start to r) where
+    pub answered : (to .number ≡ 0 → ⊥) → replyOf (runAt s t 0) ≡ refusal (to .number) (to .place)
+    answered z = rw (before-run s zero-le b ∙ (g .says ∙ pick-false _ _ (ne-eqb (to .number) 0 z)))
+
+    pub accepts : to .number ≡ 0 → replyOf (runAt s t 0) ≡ acceptance r
+    accepts z = rw (before-run s zero-le b ∙ (g .says ∙ pick-true _ _ (eq-eqb (to .number) 0 z)))
 
 -- past the word at a step
 pub past-leads : {s next : State} {t : List ℕ} {from to : Step} → Stands t from → from .number ≡ 0 → Goes s t (from .place) 0 (from .end) next → Before t (from .end) to

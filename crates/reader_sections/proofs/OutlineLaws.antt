@@ -12,7 +12,7 @@ use lib.Seq.{set-append-seam}
 use borrow.Author.Tests.{ltb-true}
 use Rattle.lists.specs.Choice.{pick, both, either}
 use Rattle.lists.specs.Lists.{part}
-use Rattle.lists.proofs.Choice.{by, both-left, both-right, both-false-left}
+use Rattle.lists.proofs.Choice.{by, clash, both-left, both-right, both-false-left}
 use Rattle.coordinates.specs.Coordinates.{northSouth, eastWest, coordinateOf, goodCoordinate}
 use Rattle.coordinates.specs.Points.{sameValue, samePoint, noPoint}
 use Rattle.coordinates.specs.declared.Coordinate.{Coordinate}
@@ -145,13 +145,32 @@ module _ {first : Point} {count refusal : ℕ} {t : List ℕ} {from mid : Step} 
   unfolding placeStep
   latitude-on = takes-on (l .says ps k) site (atLatitude ps) n (λ (c : Coordinate). atLongitude ps c) (λ z. refl)
 
-  pub point-closing : closed ≡ true → Leads (atPlace site (atLatitude ps)) t from to (after site (outlined (ps ++ (p ∷ []))))
+  point-closing : closed ≡ true → Leads (atPlace site (atLatitude ps)) t from to (after site (outlined (ps ++ (p ∷ []))))
   point-closing e = then latitude-on (g .closing e site ps n k)
 
-  pub point-going : closed ≡ false → {last : Step} → TakesFixed 0x012d refusal t to last
+  point-going : closed ≡ false → {last : Step} → TakesFixed 0x012d refusal t to last
       → Leads (atPlace site (atLatitude ps)) t from last (atPlace site (atLatitude (ps ++ (p ∷ []))))
   unfolding placeStep
   point-going e d = then (then latitude-on (g .going e site ps n k)) (fixed-on d fixed-dash site (atDash (ps ++ (p ∷ []))) n (atLatitude (ps ++ (p ∷ []))) (λ z. refl))
+
+-- … as the code has it
+module _ {first : Point} {count refusal : ℕ} {t : List ℕ} {from mid to : Step} {north : Coordinate} {p : Point} {closed : Bool} (l : LatitudeSays first count refusal t from mid north)
+    (g : LongitudeSays first count north refusal t mid to p closed) where
+  pub closing-point : closed ≡ true → PointSays first count refusal t from to p closed
+  closing-point is = record {
+    closing = λ y site ps n k. point-closing l g site ps n k y;
+    going = λ y. clash closed is y;
+    room = λ z y. clash closed is y;
+    stands = g .stands;
+  }
+
+  pub going-point : {last : Step} → closed ≡ false → TakesFixed 0x012d refusal t to last → PointSays first count refusal t from last p false
+  going-point goes dash = record {
+    closing = λ y. clash false y refl;
+    going = λ y site ps n k. point-going l g site ps n k goes dash;
+    room = λ z y. g .room (dash .went fixed-dash z) goes;
+    stands = dash .stands;
+  }
 
 -- so many points at the head of the array, and no point behind them
 pub record Filled (ps : List Point) (count : ℕ) (points : List Point) : Type 0 where

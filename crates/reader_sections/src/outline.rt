@@ -140,10 +140,11 @@ pub(crate) fn read_outline(text: &[u8], from: Step, refusal: u8) -> LocationRead
         points[count] = point;
         count += 1;
         if next.closed {
+            let written = count as u8;
             return LocationRead {
                 step,
                 extent: Extent {
-                    location: Location::Outline(count as u8),
+                    location: Location::Outline(written),
                     points,
                 },
             };

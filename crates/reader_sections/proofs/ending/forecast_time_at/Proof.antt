@@ -1,9 +1,25 @@
--- `forecast_time_at` meets its contract: a time is taken where it is that of the end of VALID, and the `=` is no time. Assumes nothing.
+-- `forecast_time_at` meets its contract: a time, and that of the end of VALID. Assumes nothing.
 use borrow.Author.Needs.{needs}
+use mathlib.Core.List.{List}
+use mathlib.Core.Path.{_≡_}
+use Prim.Native.Nat.{ℕ}
+use Rattle.reader_sections.specs.declared.steps.Step.{Step}
+use mathlib.Core.Bool.{Bool}
+use Rattle.lists.specs.Choice.{both}
+use Rattle.lists.specs.Lists.{part}
+use Rattle.groups.specs.Groups.{timeOf, goodTime}
+use Rattle.groups.specs.declared.Time.{Time}
+use Rattle.grammar.specs.Steps.{sameTime}
+use Rattle.reader_sections.specs.Endings.{forecastTime}
+use Rattle.reader_sections.specs.Leading.{Stands, Judged, Takes}
 use Rattle.reader_sections.proofs.Leads.{takes}
 use Rattle.reader_sections.proofs.Tells.{forecast-none}
 use Rattle.reader_sections.proofs.ending.forecast_time_at.Statement.{statement}
 use Rattle.reader_sections.proofs.ending.forecast_time_at.Tie as tie
+
+forecast-time : (end : Time) {t : List ℕ} {from to : Step} {u : Time} {same good b : Bool} → Stands t from → u ≡ timeOf (part (from .place) (from .end) t) → same ≡ sameTime u end
+    → good ≡ goodTime u → b ≡ both good same → Judged t from b 11 to → Takes timeOf (forecastTime end) 11 t from to u
+forecast-time end f e s g b j = takes f j (forecast-none end) e (rw (b, g, s))
 
 sub-time-word : tie.Need-sub-time-word
 sub-time-word c = search needs
@@ -30,18 +46,7 @@ judged-requires : tie.Need-judged-requires
 judged-requires c κs = search needs
 
 returns : tie.Need-returns
-returns c = takes (c .before .before .before .before .before .before .before .before .before .before .before .pre) (c .judged .ensures) (forecast-none _) (c .before .before .before .before .before .before .before .before .time-word .ensures) (rw (c .before .both2 .ensures, c .before .before .good-time .ensures, c .before .before .before .both .ensures))
+returns c = search (forecast-time, needs)
 
 pub forecast-time-at-spec : {M : Type 1} → statement M
-forecast-time-at-spec =
-    tie.close
-    (tie.spec
-    sub-time-word
-    part-time-word-start
-    part-time-word-end
-    time-word-requires
-    both-requires
-    good-time-requires
-    both-requires-2
-    judged-requires
-    returns)
+forecast-time-at-spec = tie.close (tie.spec sub-time-word part-time-word-start part-time-word-end time-word-requires both-requires good-time-requires both-requires-2 judged-requires returns)

@@ -1,19 +1,68 @@
--- `read_ending` meets its contract: `MOV`, `STNR` or, in WS only, an intensity begins the ending. Assumes nothing.
+-- `read_ending` meets its contract: by its first word it moves, has a forecast (a WS), or stands still. Assumes nothing.
 use borrow.Author.Needs.{needs}
-use mathlib.Core.Path.{refl, sym, _∙_}
+use mathlib.Core.List.{List}
+use mathlib.Core.Path.{_≡_, refl}
+use Prim.Native.Nat.{ℕ}
+use Rattle.reader_sections.specs.declared.steps.Step.{Step}
+use Rattle.lists.specs.Lists.{part}
+use Rattle.figures.specs.Codes.{codeOf}
+use mathlib.Core.Bool.{Bool, true, false, not}
+use mathlib.Core.Path.{sym, _∙_}
 use lib.Dec.{eqb}
 use borrow.Author.Tests.{eq-eqb, ne-eqb, eqb-true, eqb-false}
+use Rattle.lists.specs.Choice.{both}
+use Rattle.lists.proofs.Choice.{by}
+use Rattle.groups.specs.declared.Time.{Time}
+use Rattle.message.specs.Limits.{ws}
 use Rattle.message.specs.Locations.{noExtent}
+use Rattle.message.specs.declared.Ending.{Ending}
 use Rattle.message.specs.declared.Ending.the-variants.{Stationary}
+use Rattle.message.specs.declared.Extent.{Extent}
+use Rattle.motions.specs.Motions.{intensityOf, goodIntensity}
 use Rattle.grammar.specs.Records.{areaOf, reportOf}
 use Rattle.grammar.specs.States.State.{atEnding, atCompass, atStationary, atEnd}
 use Rattle.grammar.specs.Steps.{kindOf, stepEnding, step}
-use Rattle.lists.proofs.Choice.{by}
-use Rattle.reader_sections.proofs.Leads.{then, goes-code, code-yes, code-no, takes-fixed}
 use Rattle.vocabulary.proofs.FixedWords.{fixed-mov, fixed-stnr}
+use Rattle.reader_sections.specs.Endings.{MovingSays, ForecastSays, EndingSays}
+use Rattle.reader_sections.specs.Leading.{Stands, Before, Judged, Takes}
 use Rattle.reader_sections.proofs.FirstWords.{both-these, not-both}
+use Rattle.reader_sections.proofs.Leads.{then, goes-code, code-yes, code-no, takes-fixed}
 use Rattle.reader_sections.proofs.ending.read_ending.Statement.{statement}
 use Rattle.reader_sections.proofs.ending.read_ending.Tie as tie
+
+module _ {t : List ℕ} {from to : Step} {code : ℕ} (f : Stands t from) (e : code ≡ codeOf (part (from .place) (from .end) t)) where
+  moves : {past : Step} {kind closing : ℕ} {end : Time} {d : Ending} {x : Extent} → code ≡ 0x014d4f56 → Before t (from .end) past → MovingSays t past to d x
+      → EndingSays kind closing end t from to d x
+  unfolding step stepEnding
+  moves is past moving = record {
+    says = λ l w a u. then (goes-code f e fixed-mov is past (atEnding l) (atCompass l) (rw (code-yes f e fixed-mov is))) (moving .says l);
+    stands = moving .stands;
+  }
+
+  module _ {kind : ℕ} {forecasts : Bool} (no-mov : code ≡ 0x014d4f56 → ⊥) (b : forecasts ≡ both (eqb kind ws) (not (eqb code 0x0153544e52))) where
+    with-forecast : {closing : ℕ} {end : Time} {d : Ending} {x : Extent} → forecasts ≡ true → ForecastSays closing end t from to d x → EndingSays kind closing end t from to d x
+    unfolding step stepEnding
+    with-forecast y forecast =
+        let these = both-these kind ws code 0x0153544e52 (sym b ∙ y) in
+        record {
+          says = λ l w a u. forecast .says l a u (λ z. rw (code-no f e z fixed-mov no-mov, code-no f e z fixed-stnr (these .1), eq-eqb (kindOf (areaOf l)) ws (w ∙ these .0)));
+          stands = forecast .stands;
+        }
+
+    still : {closing i : ℕ} {end : Time} {past : Step} → forecasts ≡ false → Judged t from (eqb code 0x0153544e52) 11 past → Takes intensityOf goodIntensity 11 t past to i
+        → EndingSays kind closing end t from to (Stationary i) noExtent
+    unfolding step stepEnding
+    still n stnr intensity = record {
+      says = λ l w a u. then
+          (takes-fixed f e stnr .says _ fixed-stnr (atEnding l) (atStationary l)
+          (λ z. by (eqb code 0x0153544e52) (λ y. rw (code-no f e z fixed-mov no-mov, code-yes f e fixed-stnr (eqb-true _ _ y)))
+          (λ y.
+          let other = eqb-false code 0x0153544e52 y in
+          rw (code-no f e z fixed-mov no-mov, code-no f e z fixed-stnr other, ne-eqb (kindOf (areaOf l)) ws (λ q. not-both kind ws code 0x0153544e52 (sym b ∙ n) other (sym w ∙ q)))))
+          refl)
+          (intensity .says (atStationary l) (λ i. atEnd (reportOf l (Stationary i) noExtent)) (λ z. refl) refl);
+      stands = intensity .stands;
+    }
 
 code-of-requires : tie.Need-code-of-requires
 code-of-requires c κs = search needs
@@ -25,15 +74,7 @@ read-moving-requires : tie.Need-read-moving-requires
 read-moving-requires c κs = search needs
 
 returns : tie.Need-returns
-unfolding step stepEnding
-returns c =
-    let f = c .before .before .before .before .before .pre in
-    let i = c .before .before .before .code-of .ensures in
-    record {
-      says = λ l w a e. then (goes-code f i fixed-mov (c .before .before .if1 .taken) (c .before .step-at .ensures) (atEnding l) (atCompass l) (rw (code-yes f i fixed-mov (c .before .before .if1 .taken))))
-          (c .read-moving .ensures .says l);
-      stands = search needs;
-    }
+returns c = search (moves, needs)
 
 both-requires : tie.Need-both-requires
 both-requires c κs = search needs
@@ -42,16 +83,7 @@ read-forecast-requires : tie.Need-read-forecast-requires
 read-forecast-requires c κs = search needs
 
 returns-2 : tie.Need-returns-2
-unfolding step stepEnding
-returns-2 c =
-    let f = c .before .before .before .before .before .before .pre in
-    let i = c .before .before .before .before .code-of .ensures in
-    let takes-by-field = both-these _ _ _ _ (sym (c .before .before .both .ensures) ∙ c .before .if2 .taken) in
-    record {
-      says = λ l w a e. c .read-forecast .ensures .says l a e
-          (λ z. rw (code-no f i z fixed-mov (c .before .before .before .if1 .left), code-no f i z fixed-stnr (takes-by-field .1), eq-eqb (kindOf (areaOf l)) 2 (w ∙ takes-by-field .0)));
-      stands = search needs;
-    }
+returns-2 c = search (with-forecast, needs)
 
 judged-requires : tie.Need-judged-requires
 judged-requires c κs = search needs
@@ -59,43 +91,8 @@ judged-requires c κs = search needs
 intensity-at-requires : tie.Need-intensity-at-requires
 intensity-at-requires c κs = search needs
 
-no-extent-requires : tie.Need-no-extent-requires
-no-extent-requires c κs = search needs
-
 returns-3 : tie.Need-returns-3
-unfolding step stepEnding
-returns-3 c =
-    let f = c .before .before .before .before .before .before .before .before .before .pre in
-    let i = c .before .before .before .before .before .before .before .code-of .ensures in
-    let takes-by-field = not-both (c .before .before .before .before .before .before .before .before .before .args .kind) 2 (c .before .before .before .before .before .before .before .code-of .result) 0x0153544e52 (sym (c .before .before .before .before .before .both .ensures) ∙ c .before .before .before .before .if2 .left) in
-    record {
-      says = λ l w a e. rw (c .no-extent .ensures)
-          (then
-          (takes-fixed f i (c .before .before .before .judged .ensures) .says _ fixed-stnr (atEnding l) (atStationary l)
-          (λ z. by (eqb (c .before .before .before .before .before .before .before .code-of .result) 0x0153544e52)
-          (λ y. rw (code-no f i z fixed-mov (c .before .before .before .before .before .before .if1 .left), code-yes f i fixed-stnr (eqb-true _ _ y)))
-          (λ y. rw (
-            code-no f i z fixed-mov (c .before .before .before .before .before .before .if1 .left),
-            code-no f i z fixed-stnr (eqb-false _ _ y),
-            ne-eqb (kindOf (areaOf l)) 2 (λ q. takes-by-field (eqb-false _ _ y) (sym w ∙ q)),
-          )))
-          refl)
-          (c .before .before .intensity-at .ensures .says (atStationary l) (λ s. atEnd (reportOf l (Stationary s) noExtent)) (λ z. refl) refl));
-      stands = search needs;
-    }
+returns-3 c = search (still, needs)
 
 pub read-ending-spec : {M : Type 1} → statement M
-read-ending-spec =
-    tie.close
-    (tie.spec
-    code-of-requires
-    step-at-requires
-    read-moving-requires
-    returns
-    both-requires
-    read-forecast-requires
-    returns-2
-    judged-requires
-    intensity-at-requires
-    no-extent-requires
-    returns-3)
+read-ending-spec = tie.close (tie.spec code-of-requires step-at-requires read-moving-requires returns both-requires read-forecast-requires returns-2 judged-requires intensity-at-requires returns-3)

@@ -1,15 +1,38 @@
--- `read_forecast` meets its contract. Assumes nothing.
+-- `read_forecast` meets its contract: the intensity, FCST AT, the time, and a location at the forecast. Assumes nothing.
 use borrow.Author.Needs.{needs}
+use mathlib.Core.List.{List}
 use mathlib.Core.Path.{refl}
+use Prim.Native.Nat.{ℕ}
+use Rattle.reader_sections.specs.declared.steps.Step.{Step}
+use Rattle.groups.specs.Groups.{timeOf}
+use Rattle.groups.specs.declared.Time.{Time}
+use Rattle.message.specs.declared.Ending.the-variants.{Forecast}
+use Rattle.message.specs.declared.Extent.{Extent}
+use Rattle.motions.specs.Motions.{intensityOf, goodIntensity}
 use Rattle.grammar.specs.States.Placing.{atLocation}
 use Rattle.grammar.specs.States.Site.{inForecast}
 use Rattle.grammar.specs.States.State.{atEnding, atForecast, atForecastAt, atForecastTime, atPlace}
 use Rattle.grammar.specs.Steps.{step}
-use Rattle.reader_sections.proofs.Leads.{then}
 use Rattle.vocabulary.proofs.FixedWords.{fixed-fcst, fixed-at}
+use Rattle.reader_sections.specs.Endings.{forecastTime, ForecastSays}
+use Rattle.reader_sections.specs.Leading.{Takes, TakesFixed}
+use Rattle.reader_sections.specs.Locations.{LocatedInSays}
 use Rattle.reader_sections.proofs.FirstWords.{time-judged}
+use Rattle.reader_sections.proofs.Leads.{then}
 use Rattle.reader_sections.proofs.ending.read_forecast.Statement.{statement}
 use Rattle.reader_sections.proofs.ending.read_forecast.Tie as tie
+
+forecast : {t : List ℕ} {from a b c d to : Step} {i closing : ℕ} {u end : Time} {x : Extent} → Takes intensityOf goodIntensity 11 t from a i → TakesFixed 0x0146435354 11 t a b
+    → TakesFixed 0x014154 11 t b c → Takes timeOf (forecastTime end) 11 t c d u → LocatedInSays closing atLocation 11 t d to x → ForecastSays closing end t from to (Forecast i) x
+unfolding step
+forecast {i = i} intensity fcst at time location = record {
+  says = λ l a e f. then (intensity .says (atEnding l) (atForecast l) f refl)
+      (then (fcst .says _ fixed-fcst (atForecast l i) (atForecastAt l i) (λ z. refl) refl)
+      (then (at .says _ fixed-at (atForecastAt l i) (atForecastTime l i) (λ z. refl) refl)
+      (then (time .says (atForecastTime l i) (λ u. atPlace (inForecast l i) atLocation) (λ z. time-judged l i _ e) refl)
+      (location .says (inForecast l i) a refl))));
+  stands = location .stands;
+}
 
 intensity-at-requires : tie.Need-intensity-at-requires
 intensity-at-requires c κs = search needs
@@ -27,25 +50,7 @@ read-location-requires : tie.Need-read-location-requires
 read-location-requires c κs = search needs
 
 returns : tie.Need-returns
-unfolding step
-returns c =
-    let i = c .before .before .before .before .before .before .intensity-at .result .intensity in
-    record {
-      says = λ l a e f. then (c .before .before .before .before .before .before .intensity-at .ensures .says (atEnding l) (atForecast l) f refl)
-          (then (c .before .before .before .before .before .fixed-at .ensures .says _ fixed-fcst (atForecast l i) (atForecastAt l i) (λ z. refl) refl)
-          (then (c .before .before .before .before .fixed-at2 .ensures .says _ fixed-at (atForecastAt l i) (atForecastTime l i) (λ z. refl) refl)
-          (then (c .before .before .before .forecast-time-at .ensures .says (atForecastTime l i) (λ u. atPlace (inForecast l i) atLocation) (λ z. time-judged l i _ e) refl)
-          (c .before .before .read-location .ensures .says (inForecast l i) a refl))));
-      stands = search needs;
-    }
+returns c = search forecast
 
 pub read-forecast-spec : {M : Type 1} → statement M
-read-forecast-spec =
-    tie.close
-    (tie.spec
-    intensity-at-requires
-    fixed-at-requires
-    fixed-at-requires-2
-    forecast-time-at-requires
-    read-location-requires
-    returns)
+read-forecast-spec = tie.close (tie.spec intensity-at-requires fixed-at-requires fixed-at-requires-2 forecast-time-at-requires read-location-requires returns)

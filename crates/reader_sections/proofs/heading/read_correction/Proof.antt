@@ -1,6 +1,6 @@
--- `read_correction` meets its contract: a word that is no correction is judged as the unit. Assumes nothing.
+-- `read_correction` meets its contract: a correction, or a word that stays. Assumes nothing.
 use borrow.Author.Needs.{needs}
-use Rattle.reader_sections.proofs.Leads.{correction-yes, correction-no}
+use Rattle.reader_sections.proofs.Leads.{correction-no, correction-yes}
 use Rattle.reader_sections.proofs.heading.read_correction.Statement.{statement}
 use Rattle.reader_sections.proofs.heading.read_correction.Tie as tie
 
@@ -17,22 +17,13 @@ correction-word-requires : tie.Need-correction-word-requires
 correction-word-requires c κs = search needs
 
 returns : tie.Need-returns
-returns c = correction-no (c .before .before .before .before .pre) (c .before .correction-word .ensures) (c .if1 .taken)
+returns c = search (correction-no, needs)
 
 step-at-requires : tie.Need-step-at-requires
 step-at-requires c κs = search needs
 
 returns-2 : tie.Need-returns-2
-returns-2 c = correction-yes (c .before .before .before .before .before .pre) (c .before .before .correction-word .ensures) (c .before .if1 .left) (c .step-at .ensures)
+returns-2 c = search (correction-yes, needs)
 
 pub read-correction-spec : {M : Type 1} → statement M
-read-correction-spec =
-    tie.close
-    (tie.spec
-    sub-correction-word
-    part-correction-word-start
-    part-correction-word-end
-    correction-word-requires
-    returns
-    step-at-requires
-    returns-2)
+read-correction-spec = tie.close (tie.spec sub-correction-word part-correction-word-start part-correction-word-end correction-word-requires returns step-at-requires returns-2)

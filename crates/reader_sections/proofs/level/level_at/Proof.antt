@@ -1,11 +1,23 @@
--- `level_at` meets its contract: what is read from the word is a good level where it is not the empty one. Assumes nothing.
+-- `level_at` meets its contract: a word is a level where its level is not empty. Assumes nothing.
 use borrow.Author.Needs.{needs}
-use Rattle.reader_sections.proofs.Leads.{takes}
-use mathlib.Core.Path.{_∙_, ap}
-use mathlib.Core.Bool.{not}
+use mathlib.Core.List.{List}
+use mathlib.Core.Path.{_≡_}
+use Prim.Native.Nat.{ℕ}
+use Rattle.reader_sections.specs.declared.steps.Step.{Step}
+use mathlib.Core.Bool.{Bool, not}
+use mathlib.Core.Path.{ap, _∙_}
+use Rattle.lists.specs.Lists.{part}
+use Rattle.levels.specs.Levels.{levelOf, goodLevelWord, emptyLevel}
+use Rattle.levels.specs.declared.Level.{Level}
+use Rattle.reader_sections.specs.Leading.{Stands, Judged, Takes}
 use Rattle.reader_sections.proofs.FirstWords.{level-none, level-good}
+use Rattle.reader_sections.proofs.Leads.{takes}
 use Rattle.reader_sections.proofs.level.level_at.Statement.{statement}
 use Rattle.reader_sections.proofs.level.level_at.Tie as tie
+
+level : {t : List ℕ} {from to : Step} {l : Level} {empty : Bool} → Stands t from → l ≡ levelOf (part (from .place) (from .end) t) → empty ≡ emptyLevel l → Judged t from (not empty) 10 to
+    → Takes levelOf goodLevelWord 10 t from to l
+level f e b j = takes f j level-none e (ap not b ∙ level-good _ _ e)
 
 sub-level-word : tie.Need-sub-level-word
 sub-level-word c = search needs
@@ -26,18 +38,7 @@ judged-requires : tie.Need-judged-requires
 judged-requires c κs = search needs
 
 returns : tie.Need-returns
-returns c =
-    let level = c .before .before .level-word .ensures in
-    takes (c .before .before .before .before .before .pre) (c .judged .ensures) level-none level (ap not (c .before .empty-level .ensures) ∙ level-good _ _ level)
+returns c = search (level, needs)
 
 pub level-at-spec : {M : Type 1} → statement M
-level-at-spec =
-    tie.close
-    (tie.spec
-    sub-level-word
-    part-level-word-start
-    part-level-word-end
-    level-word-requires
-    empty-level-requires
-    judged-requires
-    returns)
+level-at-spec = tie.close (tie.spec sub-level-word part-level-word-start part-level-word-end level-word-requires empty-level-requires judged-requires returns)

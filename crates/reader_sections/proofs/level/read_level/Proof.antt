@@ -1,13 +1,47 @@
--- `read_level` meets its contract: `TOP`, `ABV` or a level begins the level. Assumes nothing.
+-- `read_level` meets its contract: TOP or ABV before a height, or a level of one word. Assumes nothing.
 use borrow.Author.Needs.{needs}
-use mathlib.Core.Path.{refl}
+use mathlib.Core.List.{List}
+use mathlib.Core.Path.{_≡_, refl}
+use Prim.Native.Nat.{ℕ}
+use Rattle.reader_sections.specs.declared.steps.Step.{Step}
+use Rattle.lists.specs.Lists.{part}
+use Rattle.figures.specs.Codes.{codeOf}
+use Rattle.levels.specs.Levels.{levelOf, goodLevelWord, flight}
+use Rattle.levels.specs.declared.Level.{Level}
 use Rattle.levels.specs.declared.Level.the-variants.{AboveFlight}
 use Rattle.grammar.specs.States.State.{atLevel, atTop, atAbove}
 use Rattle.grammar.specs.Steps.{levelled, stepLevel, step}
-use Rattle.reader_sections.proofs.Leads.{then, goes-code, code-going, code-yes, code-no}
 use Rattle.vocabulary.proofs.FixedWords.{fixed-top, fixed-abv}
+use Rattle.reader_sections.specs.Leading.{Stands, Before, Takes}
+use Rattle.reader_sections.specs.Reports.{flightIn, TopSays, LevelSays}
+use Rattle.reader_sections.proofs.Leads.{then, goes-code, code-going, code-yes, code-no}
 use Rattle.reader_sections.proofs.level.read_level.Statement.{statement}
 use Rattle.reader_sections.proofs.level.read_level.Tie as tie
+
+module _ {t : List ℕ} {from to : Step} {code : ℕ} (f : Stands t from) (e : code ≡ codeOf (part (from .place) (from .end) t)) where
+  begins-top : {past : Step} {l : Level} → code ≡ 0x01544f50 → Before t (from .end) past → TopSays t past to l → LevelSays t from to l
+  unfolding step stepLevel
+  begins-top is past top = record {
+    says = λ q. then (goes-code f e fixed-top is past (atLevel q) (atTop q) (rw (code-yes f e fixed-top is))) (top .says q);
+    stands = top .stands;
+  }
+
+  begins-above : {past : Step} {n : ℕ} → (code ≡ 0x01544f50 → ⊥) → code ≡ 0x01414256 → Before t (from .end) past → Takes flightIn flight 10 t past to n
+      → LevelSays t from to (AboveFlight n)
+  unfolding step stepLevel
+  begins-above no-top is past height = record {
+    says = λ q. then
+        (goes-code f e fixed-abv is past (atLevel q) (atAbove q) (rw (code-no f e (code-going f e fixed-abv is) fixed-top no-top, code-yes f e fixed-abv is)))
+        (height .says (atAbove q) (λ n. levelled q (AboveFlight n)) (λ z. refl) refl);
+    stands = height .stands;
+  }
+
+  one-word : {l : Level} → (code ≡ 0x01544f50 → ⊥) → (code ≡ 0x01414256 → ⊥) → Takes levelOf goodLevelWord 10 t from to l → LevelSays t from to l
+  unfolding step stepLevel
+  one-word no-top no-above level = record {
+    says = λ q. level .says (atLevel q) (levelled q) (λ z. rw (code-no f e z fixed-top no-top, code-no f e z fixed-abv no-above)) refl;
+    stands = level .stands;
+  }
 
 code-of-requires : tie.Need-code-of-requires
 code-of-requires c κs = search needs
@@ -19,15 +53,7 @@ read-top-requires : tie.Need-read-top-requires
 read-top-requires c κs = search needs
 
 returns : tie.Need-returns
-unfolding step stepLevel
-returns c =
-    let f = c .before .before .before .before .before .pre in
-    let e = c .before .before .before .code-of .ensures in
-    let top = c .before .before .if1 .taken in
-    record {
-      says = λ q. then (goes-code f e fixed-top top (c .before .step-at .ensures) (atLevel q) (atTop q) (rw (code-yes f e fixed-top top))) (c .read-top .ensures .says q);
-      stands = search needs;
-    }
+returns c = search (begins-top, needs)
 
 step-at-requires-2 : tie.Need-step-at-requires-2
 step-at-requires-2 c κs = search needs
@@ -36,43 +62,13 @@ flight-at-requires : tie.Need-flight-at-requires
 flight-at-requires c κs = search needs
 
 returns-2 : tie.Need-returns-2
-unfolding step stepLevel
-returns-2 c =
-    let f = c .before .before .before .before .before .before .before .pre in
-    let e = c .before .before .before .before .before .code-of .ensures in
-    let above = c .before .before .before .if2 .taken in
-    record {
-      says = λ q. then
-          (goes-code f e fixed-abv above (c .before .before .step-at2 .ensures) (atLevel q) (atAbove q)
-          (rw (code-no f e (code-going f e fixed-abv above) fixed-top (c .before .before .before .before .if1 .left), code-yes f e fixed-abv above)))
-          (c .before .flight-at .ensures .says (atAbove q) (λ n. levelled q (AboveFlight n)) (λ z. refl) refl);
-      stands = search needs;
-    }
+returns-2 c = search (begins-above, needs)
 
 level-at-requires : tie.Need-level-at-requires
 level-at-requires c κs = search needs
 
 returns-3 : tie.Need-returns-3
-unfolding step stepLevel
-returns-3 c =
-    let f = c .before .before .before .before .before .pre in
-    let e = c .before .before .before .code-of .ensures in
-    record {
-      says = λ q. c .level-at .ensures .says (atLevel q) (levelled q)
-          (λ z. rw (code-no f e z fixed-top (c .before .before .if1 .left), code-no f e z fixed-abv (c .before .if2 .left))) refl;
-      stands = search needs;
-    }
+returns-3 c = search (one-word, needs)
 
 pub read-level-spec : {M : Type 1} → statement M
-read-level-spec =
-    tie.close
-    (tie.spec
-    code-of-requires
-    step-at-requires
-    read-top-requires
-    returns
-    step-at-requires-2
-    flight-at-requires
-    returns-2
-    level-at-requires
-    returns-3)
+read-level-spec = tie.close (tie.spec code-of-requires step-at-requires read-top-requires returns step-at-requires-2 flight-at-requires returns-2 level-at-requires returns-3)

@@ -1,13 +1,36 @@
--- `read_top` meets its contract: `ABV` or `FLnnn` follows `TOP`. Assumes nothing.
+-- `read_top` meets its contract: perhaps ABV, then FLnnn. Assumes nothing.
 use borrow.Author.Needs.{needs}
-use mathlib.Core.Path.{refl}
+use mathlib.Core.List.{List}
+use mathlib.Core.Path.{_≡_, refl}
+use Prim.Native.Nat.{ℕ}
+use Rattle.reader_sections.specs.declared.steps.Step.{Step}
+use mathlib.Core.Bool.{Bool, true, false}
+use Rattle.levels.specs.Levels.{flight}
 use Rattle.levels.specs.declared.Level.the-variants.{TopFlight, TopAboveFlight}
 use Rattle.grammar.specs.States.State.{atTop, atTopAbove}
 use Rattle.grammar.specs.Steps.{levelled, step}
-use Rattle.reader_sections.proofs.Leads.{then}
 use Rattle.vocabulary.proofs.FixedWords.{fixed-abv}
+use Rattle.reader_sections.specs.Leading.{Takes, MayTake}
+use Rattle.reader_sections.specs.Reports.{flightIn, TopSays}
+use Rattle.reader_sections.proofs.Leads.{then}
 use Rattle.reader_sections.proofs.level.read_top.Statement.{statement}
 use Rattle.reader_sections.proofs.level.read_top.Tie as tie
+
+module _ {t : List ℕ} {from next to : Step} {found : Bool} {n : ℕ} (above : MayTake 0x01414256 t from found next) (height : Takes flightIn flight 10 t next to n) where
+  top-above : found ≡ true → TopSays t from to (TopAboveFlight n)
+  unfolding step
+  top-above y = record {
+    says = λ q. then (above .with y _ fixed-abv (atTop q) (atTopAbove q) (λ e. rw e)) (height .says (atTopAbove q) (λ n. levelled q (TopAboveFlight n)) (λ z. refl) refl);
+    stands = height .stands;
+  }
+
+  top : found ≡ false → TopSays t from to (TopFlight n)
+  unfolding step
+  top y = record {
+    says = λ q. then (above .without y _ fixed-abv (atTop q) (atTop q) (λ z n. refl) refl)
+        (height .says (atTop q) (λ n. levelled q (TopFlight n)) (λ z. rw (above .other y _ fixed-abv z)) refl);
+    stands = height .stands;
+  }
 
 perhaps-at-requires : tie.Need-perhaps-at-requires
 perhaps-at-requires c κs = search needs
@@ -16,23 +39,10 @@ flight-at-requires : tie.Need-flight-at-requires
 flight-at-requires c κs = search needs
 
 returns : tie.Need-returns
-unfolding step
-returns c =
-    record {
-      says = λ q. then (c .before .before .before .perhaps-at .ensures .with (c .if1 .taken) _ fixed-abv (atTop q) (atTopAbove q) (λ y. rw y))
-          (c .before .before .flight-at .ensures .says (atTopAbove q) (λ n. levelled q (TopAboveFlight n)) (λ z. refl) refl);
-      stands = search needs;
-    }
+returns c = search (top-above, needs)
 
 returns-2 : tie.Need-returns-2
-unfolding step
-returns-2 c =
-    let above = c .before .before .before .perhaps-at .ensures in
-    record {
-      says = λ q. then (above .without (c .if1 .left) _ fixed-abv (atTop q) (atTop q) (λ z n. refl) refl)
-          (c .before .before .flight-at .ensures .says (atTop q) (λ n. levelled q (TopFlight n)) (λ z. rw (above .other (c .if1 .left) _ fixed-abv z)) refl);
-      stands = search needs;
-    }
+returns-2 c = search (top, needs)
 
 pub read-top-spec : {M : Type 1} → statement M
 read-top-spec = tie.close (tie.spec perhaps-at-requires flight-at-requires returns returns-2)

@@ -1,40 +1,61 @@
--- `read_after_north` meets its contract: AND moves the location on to E or W, and any other word is what follows it. Assumes nothing.
+-- `read_after_north` meets its contract: without AND the location is over, with it a longitude bound follows. Assumes nothing.
 use borrow.Author.Needs.{needs}
-use borrow.Author.Tests.{not-true, not-false}
+use mathlib.Core.List.{List}
+use mathlib.Core.Path.{_≡_}
+use Prim.Native.Nat.{ℕ}
+use Rattle.reader_sections.specs.declared.steps.Step.{Step}
+use Rattle.lists.specs.Lists.{part}
+use Rattle.figures.specs.Codes.{codeOf}
+use mathlib.Core.Bool.{Bool, true, false, not}
 use mathlib.Core.Path.{sym}
-use lib.Dec.{lit<}
+use lib.Dec.{eqb, lit<}
+use borrow.Author.Tests.{not-true, not-false}
 use Rattle.coordinates.specs.Coordinates.{eastWest}
 use Rattle.message.specs.Locations.{noSide}
+use Rattle.message.specs.declared.Extent.{Extent}
+use Rattle.message.specs.declared.Side.{Side}
 use Rattle.grammar.specs.Placing.{placeStep}
 use Rattle.grammar.specs.Records.{bounded}
 use Rattle.grammar.specs.States.Placing.{atAnd, atSecondBound, atLongitudeOf}
 use Rattle.grammar.specs.States.State.{atPlace}
 use Rattle.grammar.specs.Steps.{after}
-use Rattle.reader_sections.proofs.Leads.{then}
 use Rattle.vocabulary.proofs.FixedWords.{fixed-and}
+use Rattle.reader_sections.specs.Leading.{Judged, MayTake}
+use Rattle.reader_sections.specs.Locations.{SideSays, LocatedSays}
+use Rattle.reader_sections.proofs.Leads.{then}
 use Rattle.reader_sections.proofs.Sides.{following-number, on-step, past-step, takes-on, takes-side, side-if}
 use Rattle.reader_sections.proofs.location.read_after_north.Statement.{statement}
 use Rattle.reader_sections.proofs.location.read_after_north.Tie as tie
 
+module _ {t : List ℕ} {from next : Step} {refusal : ℕ} {found : Bool} {x : Extent} (and : MayTake 0x01414e44 t from found next) where
+  alone : {north : Side} → not found ≡ true → x ≡ bounded north noSide → LocatedSays (atAnd north) refusal t from next x
+  unfolding placeStep
+  alone {north} n e = record {
+    says = λ site k. rw e
+        (and .without (not-true found n) _ fixed-and (atPlace site (atAnd north)) (after site (bounded north noSide)) (λ z f. past-step site (atAnd north) _ (rw f))
+        (sym (following-number site (bounded north noSide))));
+    stands = and .stands;
+  }
+
+  second : {north : Side} {code side : ℕ} {past to : Step} → not found ≡ false → code ≡ codeOf (part (next .place) (next .end) t) → SideSays code 69 87 side
+      → Judged t next (not (eqb side 0)) refusal past → LocatedSays (atLongitudeOf north side) refusal t past to x → LocatedSays (atAnd north) refusal t from to x
+  unfolding placeStep
+  second {north} n e letter judged east =
+      let side = takes-side (and .stands) e eastWest letter (lit< tt) (lit< tt) judged in
+      record {
+        says = λ site k. then (and .with (not-false found n) _ fixed-and (atPlace site (atAnd north)) (atPlace site (atSecondBound north)) (λ y. on-step site (atAnd north) _ (rw y)))
+            (then (takes-on side site (atSecondBound north) k (atLongitudeOf north) (λ z. side-if eastWest _ (lit< tt) (lit< tt) (atLongitudeOf north))) (east .says site k));
+        stands = east .stands;
+      }
+
 perhaps-at-requires : tie.Need-perhaps-at-requires
 perhaps-at-requires c κs = search needs
-
-no-side-requires : tie.Need-no-side-requires
-no-side-requires c κs = search needs
 
 bounded-requires : tie.Need-bounded-requires
 bounded-requires c κs = search needs
 
 returns : tie.Need-returns
-unfolding placeStep
-returns c =
-    let north = c .before .before .before .before .before .before .before .args .north in
-    record {
-      says = λ site n. rw (c .bounded .ensures, c .before .no-side .ensures)
-          (c .before .before .before .before .before .perhaps-at .ensures .without (search (not-true, needs)) _ fixed-and (atPlace site (atAnd north)) (after site (bounded north noSide))
-          (λ z f. past-step site (atAnd north) _ (rw f)) (sym (following-number site (bounded north noSide))));
-      stands = search needs;
-    }
+returns c = search (alone, needs)
 
 code-of-requires : tie.Need-code-of-requires
 code-of-requires c κs = search needs
@@ -49,28 +70,7 @@ read-east-requires : tie.Need-read-east-requires
 read-east-requires c κs = search needs
 
 returns-2 : tie.Need-returns-2
-unfolding placeStep
-returns-2 c =
-    let north = c .before .before .before .before .before .before .before .before .before .args .north in
-    let side = takes-side (c .before .before .before .before .before .before .before .perhaps-at .ensures .stands) (c .before .before .before .code-of .ensures) eastWest (c .before .before .side-letter .ensures) (lit< tt) (lit< tt) (c .before .judged .ensures) in
-    record {
-      says = λ site n. then
-          (c .before .before .before .before .before .before .before .perhaps-at .ensures .with (search (not-false, needs)) _ fixed-and (atPlace site (atAnd north)) (atPlace site (atSecondBound north)) (λ y. on-step site (atAnd north) _ (rw y)))
-          (then (takes-on side site (atSecondBound north) n (atLongitudeOf north) (λ z. side-if eastWest _ (lit< tt) (lit< tt) (atLongitudeOf north)))
-          (c .read-east .ensures .says site n));
-      stands = search needs;
-    }
+returns-2 c = search (second, needs)
 
 pub read-after-north-spec : {M : Type 1} → statement M
-read-after-north-spec =
-    tie.close
-    (tie.spec
-    perhaps-at-requires
-    no-side-requires
-    bounded-requires
-    returns
-    code-of-requires
-    side-letter-requires
-    judged-requires
-    read-east-requires
-    returns-2)
+read-after-north-spec = tie.close (tie.spec perhaps-at-requires bounded-requires returns code-of-requires side-letter-requires judged-requires read-east-requires returns-2)

@@ -1,8 +1,25 @@
--- `read_east` meets its contract: OF and the longitude are the two words of the location from there. Assumes nothing.
+-- `read_east` meets its contract: OF and a longitude close the bound. Assumes nothing.
 use borrow.Author.Needs.{needs}
+use mathlib.Core.List.{List}
+use mathlib.Core.Path.{_≡_}
+use Prim.Native.Nat.{ℕ}
+use Rattle.reader_sections.specs.declared.steps.Step.{Step}
+use Rattle.coordinates.specs.Coordinates.{eastWest, coordinateOf, goodCoordinate}
+use Rattle.coordinates.specs.declared.Coordinate.{Coordinate}
+use Rattle.message.specs.declared.Extent.{Extent}
+use Rattle.message.specs.declared.Side.{Side}
+use Rattle.grammar.specs.Records.{bounded}
+use Rattle.grammar.specs.States.Placing.{atLongitudeOf}
+use Rattle.reader_sections.specs.Leading.{Takes, TakesFixed}
+use Rattle.reader_sections.specs.Locations.{LocatedSays}
 use Rattle.reader_sections.proofs.Sides.{longitude-bound}
 use Rattle.reader_sections.proofs.location.read_east.Statement.{statement}
 use Rattle.reader_sections.proofs.location.read_east.Tie as tie
+
+east : {t : List ℕ} {from next to : Step} {refusal side : ℕ} {north : Side} {v : Coordinate} {x : Extent} → TakesFixed 0x014f46 refusal t from next
+    → Takes (coordinateOf eastWest) (goodCoordinate eastWest) refusal t next to v → x ≡ bounded north (record { of = side; at = v })
+    → LocatedSays (atLongitudeOf north side) refusal t from to x
+east of longitude e = record { says = λ site n. rw e (longitude-bound of site n longitude _ _); stands = longitude .stands }
 
 fixed-at-requires : tie.Need-fixed-at-requires
 fixed-at-requires c κs = search needs
@@ -14,12 +31,7 @@ bounded-requires : tie.Need-bounded-requires
 bounded-requires c κs = search needs
 
 returns : tie.Need-returns
-returns c =
-    record {
-      says = λ site n. rw (c .bounded .ensures) (longitude-bound (c .before .before .before .before .fixed-at .ensures) site n (c .before .before .before .longitude-at .ensures) _ _);
-      stands = search needs;
-    }
+returns c = search (east, needs)
 
 pub read-east-spec : {M : Type 1} → statement M
-read-east-spec =
-    tie.close (tie.spec fixed-at-requires longitude-at-requires bounded-requires returns)
+read-east-spec = tie.close (tie.spec fixed-at-requires longitude-at-requires bounded-requires returns)

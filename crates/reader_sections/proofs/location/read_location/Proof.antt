@@ -1,16 +1,76 @@
--- `read_location` meets its contract: the first word chooses, in the order of the machine. Assumes nothing.
+-- `read_location` meets its contract: its first word tells a bound, the entire area or an outline. Assumes nothing.
 use borrow.Author.Needs.{needs}
-use mathlib.Core.List.{[]}
-use lib.Dec.{lit<}
-use Rattle.coordinates.specs.Coordinates.{northSouth, eastWest}
-use Rattle.grammar.specs.Placing.{locating, placeStep}
+use mathlib.Core.Bool.{false}
+use mathlib.Core.List.{List, []}
+use mathlib.Core.Path.{_≡_}
+use Prim.Native.Nat.{ℕ, _<_}
+use Rattle.reader_sections.specs.declared.steps.Step.{Step}
+use Rattle.lists.specs.Lists.{part}
+use Rattle.figures.specs.Codes.{codeOf}
+use lib.Dec.{eqb, lit<}
+use Rattle.coordinates.specs.Coordinates.{Axis, northSouth, eastWest}
+use Rattle.message.specs.Locations.{noSide}
+use Rattle.message.specs.declared.Extent.{Extent}
+use Rattle.grammar.specs.Placing.{sideWord, locating, placeStep}
 use Rattle.grammar.specs.States.Placing.{atLocation, atLatitudeOf, atLongitudeOf, atEntire, atLatitude}
 use Rattle.grammar.specs.States.State.{atPlace}
-use Rattle.reader_sections.proofs.Leads.{then, goes-code, code-going, code-yes, code-no, takes-fixed}
 use Rattle.vocabulary.proofs.FixedWords.{fixed-entire, fixed-wi}
+use Rattle.reader_sections.specs.Going.{wordFrom}
+use Rattle.reader_sections.specs.Leading.{Stands, Before, Judged}
+use Rattle.reader_sections.specs.Locations.{SideSays, LocatedSays, LocatedInSays}
+use Rattle.reader_sections.proofs.Leads.{then, goes-code, code-going, code-yes, code-no, takes-fixed}
 use Rattle.reader_sections.proofs.Sides.{on-step, fixed-on, side-going, side-no, side-on}
 use Rattle.reader_sections.proofs.location.read_location.Statement.{statement}
 use Rattle.reader_sections.proofs.location.read_location.Tie as tie
+
+-- the first word is no letter of an axis
+not-of : {t : List ℕ} {from : Step} {code n : ℕ} → Stands t from → code ≡ codeOf (part (from .place) (from .end) t) → (a : Axis) → 0 < a .plus → 0 < a .minus
+    → SideSays code (a .plus) (a .minus) n → n ≡ 0 → from .number ≡ 0 → sideWord a (wordFrom t (from .place)) ≡ false
+not-of f e a p m side none z = side-no f e a side p m z none
+
+module _ {t : List ℕ} {from past to : Step} {closing refusal code n : ℕ} {x : Extent} (f : Stands t from) (e : code ≡ codeOf (part (from .place) (from .end) t)) (north : SideSays code 78 83 n) where
+  of-latitude : (n ≡ 0 → ⊥) → Before t (from .end) past → LocatedSays (atLatitudeOf n) refusal t past to x → LocatedInSays closing atLocation refusal t from to x
+  unfolding placeStep locating
+  of-latitude y p rest = record {
+    says = λ site q k. then (side-on f e northSouth north (lit< tt) (lit< tt) y p site atLocation atLatitudeOf (λ y. rw y)) (rest .says site k);
+    stands = rest .stands;
+  }
+
+  module _ {w : ℕ} (none : n ≡ 0) (east : SideSays code 69 87 w) where
+    of-longitude : (w ≡ 0 → ⊥) → Before t (from .end) past → LocatedSays (atLongitudeOf noSide w) refusal t past to x → LocatedInSays closing atLocation refusal t from to x
+    unfolding placeStep locating
+    of-longitude y p rest =
+        let z = side-going f e eastWest east (lit< tt) (lit< tt) y in
+        record {
+          says = λ site q k. then
+              (side-on f e eastWest east (lit< tt) (lit< tt) y p site atLocation (atLongitudeOf noSide) (λ i. rw (not-of f e northSouth (lit< tt) (lit< tt) north none z, i)))
+              (rest .says site k);
+          stands = rest .stands;
+        }
+
+    entire : w ≡ 0 → code ≡ 0x01454e54495245 → Before t (from .end) past → LocatedInSays closing atEntire refusal t past to x → LocatedInSays closing atLocation refusal t from to x
+    unfolding placeStep locating
+    entire nor is p rest =
+        let z = code-going f e fixed-entire is in
+        record {
+          says = λ site q k. then
+              (goes-code f e fixed-entire is p (atPlace site atLocation) (atPlace site atEntire)
+              (on-step site atLocation _
+              (rw (not-of f e northSouth (lit< tt) (lit< tt) north none z, not-of f e eastWest (lit< tt) (lit< tt) east nor z, code-yes f e fixed-entire is))))
+              (rest .says site q k);
+          stands = rest .stands;
+        }
+
+    outline : w ≡ 0 → (code ≡ 0x01454e54495245 → ⊥) → Judged t from (eqb code 0x015749) refusal past → LocatedSays (atLatitude []) refusal t past to x
+        → LocatedInSays closing atLocation refusal t from to x
+    unfolding placeStep locating
+    outline nor other within rest = record {
+      says = λ site q k. then
+          (fixed-on (takes-fixed f e within) fixed-wi site atLocation k (atLatitude [])
+          (λ z. rw (not-of f e northSouth (lit< tt) (lit< tt) north none z, not-of f e eastWest (lit< tt) (lit< tt) east nor z, code-no f e z fixed-entire other)))
+          (rest .says site k);
+      stands = rest .stands;
+    }
 
 code-of-requires : tie.Need-code-of-requires
 code-of-requires c κs = search needs
@@ -25,20 +85,10 @@ read-north-requires : tie.Need-read-north-requires
 read-north-requires c κs = search needs
 
 returns : tie.Need-returns
-unfolding placeStep locating
-returns c =
-    record {
-      says = λ site q n. then
-          (side-on (c .before .before .before .before .before .before .pre .0) (c .before .before .before .before .code-of .ensures) northSouth (c .before .before .before .side-letter .ensures) (lit< tt) (lit< tt) (c .before .before .if1 .taken) (c .before .step-at .ensures) site atLocation atLatitudeOf (λ y. rw y))
-          (c .read-north .ensures .says site n);
-      stands = search needs;
-    }
+returns c = search (of-latitude, needs)
 
 side-letter-requires-2 : tie.Need-side-letter-requires-2
 side-letter-requires-2 c κs = search needs
-
-no-side-requires : tie.Need-no-side-requires
-no-side-requires c κs = search needs
 
 step-at-requires-2 : tie.Need-step-at-requires-2
 step-at-requires-2 c κs = search needs
@@ -47,19 +97,7 @@ read-east-requires : tie.Need-read-east-requires
 read-east-requires c κs = search needs
 
 returns-2 : tie.Need-returns-2
-unfolding placeStep locating
-returns-2 c =
-    let f = c .before .before .before .before .before .before .before .before .before .pre .0 in
-    let e = c .before .before .before .before .before .before .before .code-of .ensures in
-    let no-north = side-no f e northSouth (c .before .before .before .before .before .before .side-letter .ensures) (lit< tt) (lit< tt) in
-    let going = side-going f e eastWest (c .before .before .before .before .side-letter2 .ensures) (lit< tt) (lit< tt) (c .before .before .before .if2 .taken) in
-    record {
-      says = λ site q n. then
-          (side-on f e eastWest (c .before .before .before .before .side-letter2 .ensures) (lit< tt) (lit< tt) (c .before .before .before .if2 .taken) (c .before .step-at2 .ensures) site atLocation
-          (atLongitudeOf (c .before .before .no-side .result)) (λ y. rw (no-north going (c .before .before .before .before .before .if1 .left), y, c .before .before .no-side .ensures)))
-          (c .read-east .ensures .says site n);
-      stands = search needs;
-    }
+returns-2 c = search (of-longitude, needs)
 
 step-at-requires-3 : tie.Need-step-at-requires-3
 step-at-requires-3 c κs = search needs
@@ -68,20 +106,7 @@ read-entire-requires : tie.Need-read-entire-requires
 read-entire-requires c κs = search needs
 
 returns-3 : tie.Need-returns-3
-unfolding placeStep locating
-returns-3 c =
-    let f = c .before .before .before .before .before .before .before .before .before .pre .0 in
-    let e = c .before .before .before .before .before .before .before .code-of .ensures in
-    let z = code-going f e fixed-entire (c .before .before .if3 .taken) in
-    let no-north = side-no f e northSouth (c .before .before .before .before .before .before .side-letter .ensures) (lit< tt) (lit< tt) z (c .before .before .before .before .before .if1 .left) in
-    let no-east = side-no f e eastWest (c .before .before .before .before .side-letter2 .ensures) (lit< tt) (lit< tt) z (c .before .before .before .if2 .left) in
-    record {
-      says = λ site q n. then
-          (goes-code f e fixed-entire (c .before .before .if3 .taken) (c .before .step-at3 .ensures) (atPlace site atLocation) (atPlace site atEntire)
-          (on-step site atLocation _ (rw (no-north, no-east, code-yes f e fixed-entire (c .before .before .if3 .taken)))))
-          (c .read-entire .ensures .says site q n);
-      stands = search needs;
-    }
+returns-3 c = search (entire, needs)
 
 judged-requires : tie.Need-judged-requires
 judged-requires c κs = search needs
@@ -90,37 +115,7 @@ read-outline-requires : tie.Need-read-outline-requires
 read-outline-requires c κs = search needs
 
 returns-4 : tie.Need-returns-4
-unfolding placeStep locating
-returns-4 c =
-    let f = c .before .before .before .before .before .before .before .before .before .pre .0 in
-    let e = c .before .before .before .before .before .before .before .code-of .ensures in
-    let no-north = side-no f e northSouth (c .before .before .before .before .before .before .side-letter .ensures) (lit< tt) (lit< tt) in
-    let no-east = side-no f e eastWest (c .before .before .before .before .side-letter2 .ensures) (lit< tt) (lit< tt) in
-    record {
-      says = λ site q n. then
-          (fixed-on (takes-fixed f e (c .before .judged .ensures)) fixed-wi site atLocation n (atLatitude [])
-          (λ z. rw (no-north z (c .before .before .before .before .before .if1 .left), no-east z (c .before .before .before .if2 .left), code-no f e z fixed-entire (c .before .before .if3 .left))))
-          (c .read-outline .ensures .says site n);
-      stands = search needs;
-    }
+returns-4 c = search (outline, needs)
 
 pub read-location-spec : {M : Type 1} → statement M
-read-location-spec =
-    tie.close
-    (tie.spec
-    code-of-requires
-    side-letter-requires
-    step-at-requires
-    read-north-requires
-    returns
-    side-letter-requires-2
-    no-side-requires
-    step-at-requires-2
-    read-east-requires
-    returns-2
-    step-at-requires-3
-    read-entire-requires
-    returns-3
-    judged-requires
-    read-outline-requires
-    returns-4)
+read-location-spec = tie.close (tie.spec code-of-requires side-letter-requires step-at-requires read-north-requires returns side-letter-requires-2 step-at-requires-2 read-east-requires returns-2 step-at-requires-3 read-entire-requires returns-3 judged-requires read-outline-requires returns-4)

@@ -1,9 +1,23 @@
--- `read_north` meets its contract: OF, the latitude and what may follow, one after the other. Assumes nothing.
+-- `read_north` meets its contract: OF and a latitude, and what may follow. Assumes nothing.
 use borrow.Author.Needs.{needs}
+use mathlib.Core.List.{List}
+use Prim.Native.Nat.{ℕ}
+use Rattle.reader_sections.specs.declared.steps.Step.{Step}
+use Rattle.coordinates.specs.Coordinates.{northSouth, coordinateOf, goodCoordinate}
+use Rattle.coordinates.specs.declared.Coordinate.{Coordinate}
+use Rattle.message.specs.declared.Extent.{Extent}
+use Rattle.grammar.specs.States.Placing.{atLatitudeOf, atAnd}
+use Rattle.reader_sections.specs.Leading.{Takes, TakesFixed}
+use Rattle.reader_sections.specs.Locations.{LocatedSays}
 use Rattle.reader_sections.proofs.Leads.{then}
 use Rattle.reader_sections.proofs.Sides.{latitude-bound}
 use Rattle.reader_sections.proofs.location.read_north.Statement.{statement}
 use Rattle.reader_sections.proofs.location.read_north.Tie as tie
+
+north : {t : List ℕ} {from a b to : Step} {refusal side : ℕ} {v : Coordinate} {x : Extent} → TakesFixed 0x014f46 refusal t from a
+    → Takes (coordinateOf northSouth) (goodCoordinate northSouth) refusal t a b v → LocatedSays (atAnd (record { of = side; at = v })) refusal t b to x
+    → LocatedSays (atLatitudeOf side) refusal t from to x
+north of latitude rest = record { says = λ site n. then (latitude-bound of site n latitude _) (rest .says site n); stands = rest .stands }
 
 fixed-at-requires : tie.Need-fixed-at-requires
 fixed-at-requires c κs = search needs
@@ -15,12 +29,7 @@ read-after-north-requires : tie.Need-read-after-north-requires
 read-after-north-requires c κs = search needs
 
 returns : tie.Need-returns
-returns c =
-    record {
-      says = λ site n. then (latitude-bound (c .before .before .before .fixed-at .ensures) site n (c .before .before .latitude-at .ensures) _) (c .read-after-north .ensures .says site n);
-      stands = search needs;
-    }
+returns c = search (north, needs)
 
 pub read-north-spec : {M : Type 1} → statement M
-read-north-spec =
-    tie.close (tie.spec fixed-at-requires latitude-at-requires read-after-north-requires returns)
+read-north-spec = tie.close (tie.spec fixed-at-requires latitude-at-requires read-after-north-requires returns)

@@ -1,17 +1,17 @@
--- `closes` meets its contract: with no point so far none closes the outline, else the first point is the list's. Assumes nothing.
+-- `closes` meets its contract: no first point closes; a later one does where it is the same as point 1. Assumes nothing.
 use borrow.Author.Needs.{needs}
 use Rattle.reader_sections.proofs.OutlineLaws.{none-closes, same-closes}
 use Rattle.reader_sections.proofs.outline.closes.Statement.{statement}
 use Rattle.reader_sections.proofs.outline.closes.Tie as tie
 
 returns : tie.Need-returns
-returns c = none-closes (c .if1 .taken) _
+returns c = search (none-closes, needs)
 
 same-point-requires : tie.Need-same-point-requires
 same-point-requires c κs = search needs
 
 returns-2 : tie.Need-returns-2
-returns-2 c = rw (c .same-point .ensures) (same-closes (c .before .if1 .left) _)
+returns-2 c = rw (c .same-point .ensures) (search (same-closes, needs))
 
 pub closes-spec : {M : Type 1} → statement M
 closes-spec = tie.close (tie.spec returns same-point-requires returns-2)

@@ -1,11 +1,11 @@
--- `may_follow` meets its contract: with no point so far any latitude follows, else count and first point decide as the list does. Assumes nothing.
+-- `may_follow` meets its contract: any latitude may be the first; a later one has room, or that of point 1. Assumes nothing.
 use borrow.Author.Needs.{needs}
 use Rattle.reader_sections.proofs.OutlineLaws.{first-follows, next-follows}
 use Rattle.reader_sections.proofs.outline.may_follow.Statement.{statement}
 use Rattle.reader_sections.proofs.outline.may_follow.Tie as tie
 
 returns : tie.Need-returns
-returns c = first-follows (c .if1 .taken) _
+returns c = search (first-follows, needs)
 
 add-either : tie.Need-add-either
 add-either c = search needs
@@ -17,8 +17,7 @@ either-requires : tie.Need-either-requires
 either-requires c κs = search needs
 
 returns-2 : tie.Need-returns-2
-returns-2 c = rw (c .either .ensures, c .before .same-latitude .ensures) (next-follows (c .before .before .before .if1 .left) _)
+returns-2 c = rw (c .either .ensures, c .before .same-latitude .ensures) (search (next-follows, needs))
 
 pub may-follow-spec : {M : Type 1} → statement M
-may-follow-spec =
-    tie.close (tie.spec returns add-either same-latitude-requires either-requires returns-2)
+may-follow-spec = tie.close (tie.spec returns add-either same-latitude-requires either-requires returns-2)

@@ -26,17 +26,7 @@ judged-requires : tie.Need-judged-requires
 judged-requires c κs = search needs
 
 returns : tie.Need-returns
-returns c = latitude-says (c .before .before .before .before .before .before .before .pre .0) (c .before .before .before .before .latitude .ensures) (c .before .before .may-follow .ensures) (c .before .both .ensures) (c .judged .ensures)
+returns c = search (latitude-says, needs)
 
 pub next-latitude-spec : {M : Type 1} → statement M
-next-latitude-spec =
-    tie.close
-    (tie.spec
-    sub-latitude
-    part-latitude-start
-    part-latitude-end
-    latitude-requires
-    may-follow-requires
-    both-requires
-    judged-requires
-    returns)
+next-latitude-spec = tie.close (tie.spec sub-latitude part-latitude-start part-latitude-end latitude-requires may-follow-requires both-requires judged-requires returns)

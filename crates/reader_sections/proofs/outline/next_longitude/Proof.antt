@@ -42,7 +42,7 @@ fits-is : (c : tie.Joined1) → c .if1 .fits
 fits-is c = ⊎-elim (λ w. w .1 ∙ rw (w .0 .taken)) (λ w. w .1 ∙ rw (w .0 .left)) (c .if1 .came)
 
 returns : tie.Need-returns
-returns c = longitude-says (c .before .before .before .before .before .before .before .before .pre .0) (c .before .before .before .before .before .longitude .ensures) (c .before .before .before .before .closes .ensures) (fits-is (c .before .before .before)) (c .before .both .ensures) (c .judged .ensures) (λ z. search needs)
+returns c = longitude-says (search needs) (search needs) (search needs) (fits-is (c .before .before .before)) (c .before .both .ensures) (search needs) (λ z. search needs)
 
 pub next-longitude-spec : {M : Type 1} → statement M
 next-longitude-spec =

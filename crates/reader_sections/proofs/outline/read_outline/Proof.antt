@@ -13,11 +13,8 @@ Inv-loop text refusal points₀ count₀ step₀ points count step = Gone text s
 abbrev μ-loop : tie.MeasureT-loop
 μ-loop text refusal points₀ count₀ step₀ points count step = mostPoints - count
 
-no-point-requires : tie.Need-no-point-requires Inv-loop μ-loop
-no-point-requires c κs = search needs
-
 loop-holds : tie.Need-loop-holds Inv-loop μ-loop
-loop-holds c = rw (c .no-point .ensures) (gone-none (search needs))
+loop-holds c = gone-none (search needs)
 
 array-copy-out-first : tie.Need-array-copy-out-first Inv-loop μ-loop
 array-copy-out-first c = search needs
@@ -25,11 +22,8 @@ array-copy-out-first c = search needs
 next-point-requires : tie.Need-next-point-requires Inv-loop μ-loop
 next-point-requires c κs = search needs
 
-no-extent-requires : tie.Need-no-extent-requires Inv-loop μ-loop
-no-extent-requires c κs = search needs
-
 returns : tie.Need-returns Inv-loop μ-loop
-returns c = gone-refused (c .before .before .before .before .before .before .loop .inv) (c .before .before .before .before .next-point .ensures) (c .before .if1 .taken) _
+returns c = search (gone-refused, needs)
 
 mul-points : tie.Need-mul-points Inv-loop μ-loop
 mul-points c = search needs
@@ -40,17 +34,17 @@ array-set-from-points c = search needs
 add-count : tie.Need-add-count Inv-loop μ-loop
 add-count c = search needs
 
-cast-t19 : tie.Need-cast-t19 Inv-loop μ-loop
-cast-t19 c = search needs
+cast-written : tie.Need-cast-written Inv-loop μ-loop
+cast-written c = search needs
 
 returns-2 : tie.Need-returns-2 Inv-loop μ-loop
-returns-2 c = gone-over (c .before .before .before .before .before .before .before .loop .inv) (c .before .before .before .before .before .next-point .ensures) (c .if2 .taken)
+returns-2 c = search (gone-over, needs)
 
 loop-less : tie.Need-loop-less Inv-loop μ-loop
 loop-less c = omega arith
 
 loop-again : tie.Need-loop-again Inv-loop μ-loop
-loop-again c = gone-on (c .before .before .before .before .before .before .before .loop .inv) (c .before .before .before .before .before .next-point .ensures) (c .before .before .if1 .left) (c .if2 .left)
+loop-again c = search (gone-on, needs)
 
 pub read-outline-spec : {M : Type 1} → statement M
 read-outline-spec =
@@ -58,16 +52,14 @@ read-outline-spec =
     (tie.spec
     Inv-loop
     μ-loop
-    no-point-requires
     loop-holds
     array-copy-out-first
     next-point-requires
-    no-extent-requires
     returns
     mul-points
     array-set-from-points
     add-count
-    cast-t19
+    cast-written
     returns-2
     loop-less
     loop-again)

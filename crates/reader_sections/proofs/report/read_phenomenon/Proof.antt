@@ -1,30 +1,36 @@
--- `read_phenomenon` meets its contract. Assumes nothing.
+-- `read_phenomenon` meets its contract: by the kind of the bulletin. Assumes nothing.
 use borrow.Author.Needs.{needs}
+use mathlib.Core.List.{List}
+use mathlib.Core.Path.{_≡_}
+use Prim.Native.Nat.{ℕ}
+use Rattle.reader_sections.specs.declared.steps.Step.{Step}
 use mathlib.Core.Path.{sym, _∙_}
+use Rattle.message.specs.Limits.{ws}
+use Rattle.message.specs.Reports.{noVolcano}
+use Rattle.message.specs.declared.Volcano.{Volcano}
+use Rattle.reader_sections.specs.Phenomena.{WeatherSays, AshSays}
+use Rattle.reader_sections.specs.Reports.{PhenomenonSays}
 use Rattle.reader_sections.proofs.FirstWords.{weather-form, ash-form}
 use Rattle.reader_sections.proofs.report.read_phenomenon.Statement.{statement}
 use Rattle.reader_sections.proofs.report.read_phenomenon.Tie as tie
 
+of-ws : {t : List ℕ} {from to : Step} {kind p : ℕ} → kind ≡ ws → WeatherSays t from to p → PhenomenonSays kind t from to p noVolcano
+of-ws is weather = record { says = λ o k r. weather .says o (λ z. weather-form o _ (r z) (k ∙ is)); stands = weather .stands }
+
+of-wv : {t : List ℕ} {from to : Step} {kind p : ℕ} {v : Volcano} → (kind ≡ ws → ⊥) → AshSays t from to p v → PhenomenonSays kind t from to p v
+of-wv no ash = record { says = λ o k r. ash .says o (λ z. ash-form o _ (r z) (λ y. no (sym k ∙ y))); stands = ash .stands }
+
 read-weather-requires : tie.Need-read-weather-requires
 read-weather-requires c κs = search needs
 
-no-volcano-requires : tie.Need-no-volcano-requires
-no-volcano-requires c κs = search needs
-
 returns : tie.Need-returns
-returns c =
-    record {
-      says = λ o k r. rw (c .no-volcano .ensures) (c .before .before .read-weather .ensures .says o (λ z. weather-form o _ (r z) (k ∙ c .before .before .before .if1 .taken)));
-      stands = search needs;
-    }
+returns c = search (of-ws, needs)
 
 read-ash-requires : tie.Need-read-ash-requires
 read-ash-requires c κs = search needs
 
 returns-2 : tie.Need-returns-2
-returns-2 c = record { says = λ o k r. c .read-ash .ensures .says o (λ z. ash-form o _ (r z) (λ y. c .before .if1 .left (sym k ∙ y))); stands = search needs }
+returns-2 c = search (of-wv, needs)
 
 pub read-phenomenon-spec : {M : Type 1} → statement M
-read-phenomenon-spec =
-    tie.close
-    (tie.spec read-weather-requires no-volcano-requires returns read-ash-requires returns-2)
+read-phenomenon-spec = tie.close (tie.spec read-weather-requires returns read-ash-requires returns-2)

@@ -21,7 +21,7 @@ judged-requires : tie.Need-judged-requires
 judged-requires c κs = search needs
 
 returns : tie.Need-returns
-returns c = takes-by-field designator-tells (c .before .before .before .before .before .pre .0) (c .before .before .designator-word .ensures) (c .judged .ensures)
+returns c = takes-by-field designator-tells (search needs) (search needs) (search needs)
 
 pub designator-at-spec : {M : Type 1} → statement M
 designator-at-spec =

@@ -21,7 +21,7 @@ judged-requires : tie.Need-judged-requires
 judged-requires c κs = search needs
 
 returns : tie.Need-returns
-returns c = search (takes-by-field letters-tells, needs)
+returns c = takes-by-field letters-tells (search needs) (search needs) (search needs)
 
 pub letters-at-spec : {M : Type 1} → statement M
 letters-at-spec =

@@ -21,7 +21,7 @@ judged-requires : tie.Need-judged-requires
 judged-requires c κs = search needs
 
 returns : tie.Need-returns
-returns c = takes-by-field period-tells (c .before .before .before .before .before .before .pre .0) (c .before .before .before .period-word .ensures) (c .judged .ensures)
+returns c = takes-by-field period-tells (search needs) (search needs) (search needs)
 
 pub period-at-spec : {M : Type 1} → statement M
 period-at-spec =

@@ -11,7 +11,7 @@ judged-requires : tie.Need-judged-requires
 judged-requires c κs = search needs
 
 returns : tie.Need-returns
-returns c = takes-fixed (c .before .before .before .pre .0) (c .before .code-of .ensures) (c .judged .ensures)
+returns c = search (takes-fixed, needs)
 
 pub fixed-at-spec : {M : Type 1} → statement M
 fixed-at-spec = tie.close (tie.spec code-of-requires judged-requires returns)

@@ -11,10 +11,10 @@ step-at-requires : tie.Need-step-at-requires
 step-at-requires c κs = search needs
 
 returns : tie.Need-returns
-returns c = may-yes (search needs) (c .before .before .code-of .ensures) _ (c .before .if1 .taken) (c .step-at .ensures)
+returns c = search (may-yes, needs)
 
 returns-2 : tie.Need-returns-2
-returns-2 c = may-no (search needs) (c .before .code-of .ensures) _ (c .if1 .left)
+returns-2 c = search (may-no, needs)
 
 pub perhaps-at-spec : {M : Type 1} → statement M
 perhaps-at-spec = tie.close (tie.spec code-of-requires step-at-requires returns returns-2)

@@ -8,7 +8,7 @@ span-at-requires : tie.Need-span-at-requires
 span-at-requires c κs = search needs
 
 returns : tie.Need-returns
-returns c = before-is (search needs) (c .span-at .ensures)
+returns c = search (before-is, needs)
 
 pub step-at-spec : {M : Type 1} → statement M
 step-at-spec = tie.close (tie.spec span-at-requires returns)
