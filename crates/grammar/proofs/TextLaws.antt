@@ -39,7 +39,8 @@ use Rattle.grammar.specs.States.Move.{goes, done, dead}
 use Rattle.grammar.specs.States.State.{atDesignator}
 use Rattle.grammar.specs.Steps.{step}
 use Rattle.grammar.specs.declared.Reply.{Reply}
-use Rattle.grammar.specs.Writes.{Wrote, unwritten, written, writeOf}
+use Rattle.grammar.specs.Writes.{writeOf}
+use Rattle.pens.specs.Outcomes.{Wrote, unwritten, written}
 use Rattle.grammar.proofs.NumberLaws.{number-range}
 use Rattle.grammar.proofs.Opening.{some-correction, no-correction}
 use Rattle.grammar.proofs.RunLaws.{refused-number, accepted-not, unfinished-not}

@@ -20,7 +20,8 @@ use Rattle.grammar.specs.Runs.{walk, run}
 use Rattle.grammar.specs.Runs.Ran.{accepted, refused}
 use Rattle.grammar.specs.States.Move.{goes, done}
 use Rattle.grammar.specs.States.State.{atDesignator}
-use Rattle.grammar.specs.Writes.{writeOf, written, unwritten}
+use Rattle.grammar.specs.Writes.{writeOf}
+use Rattle.pens.specs.Outcomes.{written, unwritten}
 use Rattle.grammar.specs.declared.Reply.{Reply}
 use Rattle.grammar.proofs.FirstDead.{refused-exactly}
 use Rattle.grammar.proofs.Forth.{good-accepted}

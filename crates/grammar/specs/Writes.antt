@@ -6,22 +6,10 @@ use Prim.Native.Nat.{ℕ}
 use lib.Dec.{ltb}
 use lib.ListN.{length, drop}
 use Rattle.lists.specs.Choice.{pick}
+use Rattle.pens.specs.Outcomes.{Wrote, unwritten, written}
 use Rattle.message.specs.Records.{good}
 use Rattle.message.specs.Words.{textOf}
 use Rattle.message.specs.declared.Record.{Record}
-
--- the refusal number, 0 for none, the count written, and the buffer as it is afterwards
-pub record Wrote : Type 0 where
-  pub number : ℕ
-  pub count : ℕ
-  pub buffer : List ℕ
-
-abbrev pub unwritten : ℕ → List ℕ → Wrote
-unwritten number buffer = record { number = number; count = 0; buffer = buffer }
-
--- "On success of writer or listing the bytes past the count stay."
-abbrev pub written : List ℕ → List ℕ → Wrote
-written text buffer = record { number = 0; count = length text; buffer = text ++ drop (length text) buffer }
 
 unfoldable pub writeOf : Record → List ℕ → Wrote
 writeOf r buffer =

@@ -9,11 +9,11 @@ use lib.Dec.{ltb, eqb}
 use lib.ListN.{length, drop}
 use Rattle.lists.specs.Choice.{pick}
 use Rattle.figures.specs.Letters.{inLetters}
+use Rattle.pens.specs.Outcomes.{Wrote, unwritten, written}
 use Rattle.places.specs.declared.Place.{Place}
 use Rattle.board.specs.Boards.{refusalAt}
 use Rattle.board.specs.declared.Board.{Board}
 use Rattle.listing.specs.Rows.{rowsOf}
-use Rattle.listing.specs.declared.Listed.{Listed}
 
 -- "kind 1, the time asked (4 bytes)"
 unfoldable pub timeRecord : ℕ → List ℕ
@@ -43,30 +43,12 @@ listing time rows = timeRecord time ++ records rows
 unfoldable pub listingOf : ℕ → List Place → List ℕ
 listingOf time places = listing time (rowsOf time places)
 
--- the reply of a listing with the buffer as it is then
-pub record Told : Type 0 where
-  pub answer : ℕ
-  pub count : ℕ
-  pub buffer : List ℕ
-
--- "Count 0, buffer untouched."
-abbrev pub untold : ℕ → List ℕ → Told
-untold number buffer = record { answer = number; count = 0; buffer = buffer }
-
--- "the count written is returned"; "On success of writer or listing the bytes past the count stay."
-abbrev pub tells : List ℕ → List ℕ → Told
-tells listing buffer = record { answer = 0; count = length listing; buffer = listing ++ drop (length listing) buffer }
-
 -- "Listing: 36, 16, 17, then 14 (count 0, buffer untouched)."
-unfoldable pub listOf : Board → ℕ → List ℕ → Told
+unfoldable pub listOf : Board → ℕ → List ℕ → Wrote
 listOf b time buffer =
     pick (eqb (refusalAt b time) 0)
-    (pick (ltb (length buffer) (length (listingOf time (b .places)))) (untold 14 buffer) (tells (listingOf time (b .places)) buffer))
-    (untold (refusalAt b time) buffer)
-
--- the reply of `list` with the buffer as it is then
-abbrev pub told : Listed → List ℕ → Told
-told r buffer = record { answer = r .answer; count = r .count; buffer = buffer }
+    (pick (ltb (length buffer) (length (listingOf time (b .places)))) (unwritten 14 buffer) (written (listingOf time (b .places)) buffer))
+    (unwritten (refusalAt b time) buffer)
 
 -- rows written at the front of a page, with the count of bytes
 pub record PutsListing (time : ℕ) (rows : List Place) (page : List ℕ) (count : ℕ) (after : List ℕ) : Type 0 where

@@ -2,25 +2,22 @@
 ghost use mathlib.Core.Path.{_≡_};
 ghost use Prim.Native.Nat.{_+_, _*_, _≤_};
 ghost use lib.ListN.{length};
+ghost use Rattle.pens.specs.Outcomes.{wrote};
 ghost use Rattle.pens.specs.Pens.{Puts};
 ghost use Rattle.listing.specs.Holding.{rowsIn};
-ghost use Rattle.listing.specs.Listings.{timeRecord, correctionByte, messageRecord, listOf, told, PutsListing};
+ghost use Rattle.listing.specs.Listings.{timeRecord, correctionByte, messageRecord, listOf, PutsListing};
 
 mod ordering;
 mod rows;
 
 use board::Board;
+use pens::Written;
 use pens::put;
 use pens::put_big_endian;
+use pens::refused;
 use places::Place;
 use rows::Rows;
 use rows::rows_at;
-
-// The refusal number, 0 for none, and the count of bytes written, 0 where refused.
-pub struct Listed {
-    pub answer: u8,
-    pub count: usize,
-}
 
 fn put_time(out: &mut [u8], time: u32) -> usize
     ensures { λ r. ⌜ Puts (timeRecord time) 0 (now (out .entry)) r (now (out .exit)) ⌝ }
@@ -68,18 +65,9 @@ fn put_listing(out: &mut [u8], time: u32, rows: Rows) -> usize
     at
 }
 
-fn refused(number: u8) -> Listed
-    ensures { λ r. ⌜ (r .answer ≡ number) × (r .count ≡ 0) ⌝ }
-{
-    Listed {
-        answer: number,
-        count: 0,
-    }
-}
-
-// PutsListing what is in force at a time, at the front of the buffer.
-pub fn list(board: Board, time: u32, out: &mut [u8]) -> Listed
-    ensures { λ r. ⌜ told r (now (out .exit)) ≡ listOf board time (now (out .entry)) ⌝ }
+// Lists what is in force at a time, at the front of the buffer.
+pub fn list(board: Board, time: u32, out: &mut [u8]) -> Written
+    ensures { λ r. ⌜ wrote r (now (out .exit)) ≡ listOf board time (now (out .entry)) ⌝ }
 {
     let number = board.refusal_at(time);
     if number != 0 {
@@ -91,5 +79,5 @@ pub fn list(board: Board, time: u32, out: &mut [u8]) -> Listed
         return refused(14);
     }
     let count = put_listing(out, time, rows);
-    Listed { answer: 0, count }
+    Written { number: 0, count }
 }

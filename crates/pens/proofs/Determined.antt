@@ -1,9 +1,11 @@
 -- The public contracts of this crate settle reply and buffer: two outcomes that one allows on the same arguments are equal.
 -- Assumes nothing.
-use mathlib.Core.Path.{ap}
-use Rattle.lists.specs.Determined.{Settles}
+use mathlib.Core.Path.{ap, sym, _∙_}
+use Rattle.lists.specs.Determined.{Determines, Settles}
 use Rattle.pens.specs.Pens.{Pen}
 use Rattle.pens.proofs.PenLaws.{puts-same, words-same}
+use Rattle.pens.proofs.refused.Kinds as refused-kinds
+use Rattle.pens.proofs.refused.Reads as refused-reads
 use Rattle.pens.proofs.put.Kinds as put-kinds
 use Rattle.pens.proofs.put.Reads as put-reads
 use Rattle.pens.proofs.put_all.Kinds as put-all-kinds
@@ -18,6 +20,9 @@ use Rattle.pens.proofs.put_code.Kinds as put-code-kinds
 use Rattle.pens.proofs.put_code.Reads as put-code-reads
 use Rattle.pens.proofs.put_fixed.Kinds as put-fixed-kinds
 use Rattle.pens.proofs.put_fixed.Reads as put-fixed-reads
+
+pub refused-determined : Determines 0 refused-kinds.ps refused-kinds.r refused-reads.Learnt
+refused-determined κs a r s x y p q = λ i. record { number = (p .0 ∙ sym (q .0)) i; count = (p .1 ∙ sym (q .1)) i }
 
 -- a pen is a reply with a page: the two parts of an outcome
 pub put-settles : Settles 1 put-kinds.ps put-kinds.r put-reads.Learnt

@@ -1,11 +1,24 @@
 // A pen over a lent buffer. It stands at a place, puts bytes there and answers with the place behind them. At the end of the buffer it
 // stops: what does not fit is not put, and the pen stays.
 ghost use mathlib.Core.List.{[], _∷_};
+ghost use mathlib.Core.Path.{_≡_};
 ghost use Prim.Native.Nat.{_+_, _≤_, _<_};
 ghost use Rattle.lists.specs.Base.{places};
 ghost use Rattle.figures.specs.Codes.{behindOne, spellCode};
 ghost use Rattle.figures.specs.Figures.{inFigures};
 ghost use Rattle.pens.specs.Pens.{Puts, Words, shifted};
+
+// What writing comes to: the refusal number, 0 for none, and the count of bytes written, 0 where refused.
+pub struct Written {
+    pub number: u8,
+    pub count: usize,
+}
+
+pub fn refused(number: u8) -> Written
+    ensures { λ r. ⌜ (r .number ≡ number) × (r .count ≡ 0) ⌝ }
+{
+    Written { number, count: 0 }
+}
 
 // One byte.
 pub fn put(out: &mut [u8], at: usize, x: u8) -> usize

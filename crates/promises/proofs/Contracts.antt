@@ -13,11 +13,11 @@ use Rattle.message.specs.declared.Record.{Record}
 use Rattle.grammar.specs.Reads.{acceptance, readOf}
 use Rattle.grammar.specs.Replies.{Replied}
 use Rattle.grammar.specs.Replies.Replied.{unreadable, readAs, refusedAs}
-use Rattle.grammar.specs.Writes.{Wrote}
+use Rattle.pens.specs.Outcomes.{Wrote}
 use Rattle.grammar.specs.declared.Reply.{Reply}
 use Rattle.grammar.proofs.Theorems as grammar
-use Rattle.writer.specs.Writing.{wrote}
-use Rattle.writer.specs.declared.Written.{Written}
+use Rattle.pens.specs.Outcomes.{wrote}
+use Rattle.pens.specs.declared.Written.{Written}
 use Rattle.roundtrips.specs.Trips.{MayRead, MayWrite}
 use Rattle.roundtrips.proofs.Outcomes.{reads, writes}
 use Rattle.roundtrips.proofs.RoundTrips as trips
@@ -30,7 +30,8 @@ use Rattle.board.specs.declared.Posted.{Posted}
 use Rattle.board.proofs.RefusalLaws.{bad-refusal, good-refusal}
 use Rattle.board.proofs.SettleLaws.{spot-36}
 use Rattle.board.proofs.PostLaws.{refused-unchanged}
-use Rattle.listing.specs.Listings.{Told, listingOf, listOf}
+use Rattle.pens.specs.Outcomes.{Wrote}
+use Rattle.listing.specs.Listings.{listingOf, listOf}
 use Rattle.listing.proofs.ListLaws.{refused-untouched}
 use Rattle.promises.specs.Calls.{MayPost, MayList}
 use Rattle.promises.specs.Demand1.{Demand1}
@@ -59,8 +60,8 @@ one-posting b x y clock r m n p q =
 
 one-listing : (b : Board) (time : ℕ) (buffer x y : List ℕ) (m n j k : ℕ) → MayList b time buffer m j x → MayList b time buffer n k y → (m ≡ n) × (j ≡ k) × (x ≡ y)
 one-listing b time buffer x y m n j k p q =
-    let same : _≡_ {A = Told} (record { answer = m; count = j; buffer = x }) (record { answer = n; count = k; buffer = y }) = lists-so p ∙ sym (lists-so q) in
-    (ap (λ (z : Told). z .answer) same, ap (λ (z : Told). z .count) same, ap (λ (z : Told). z .buffer) same)
+    let same : _≡_ {A = Wrote} (record { number = m; count = j; buffer = x }) (record { number = n; count = k; buffer = y }) = lists-so p ∙ sym (lists-so q) in
+    (ap (λ (z : Wrote). z .number) same, ap (λ (z : Wrote). z .count) same, ap (λ (z : Wrote). z .buffer) same)
 
 refused-writing : (r : Record) (buffer after : List ℕ) (w : Written) → MayWrite r buffer w after → (w .number ≡ 0 → ⊥) → (w .count ≡ 0) × (after ≡ buffer)
 refused-writing r buffer after w m n = let some : 0 < w .number = omega (arith, n) in trips.refused-untouched m some
@@ -71,9 +72,9 @@ refused-post b after clock r answer m n =
 
 refused-listing : (b : Board) (time : ℕ) (buffer after : List ℕ) (answer count : ℕ) → MayList b time buffer answer count after → (answer ≡ 0 → ⊥) → (count ≡ 0) × (after ≡ buffer)
 refused-listing b time buffer after answer count m n =
-    let same : _≡_ {A = Told} (record { answer = answer; count = count; buffer = after }) (listOf b time buffer) = lists-so m in
-    let k = refused-untouched b time buffer (λ e. n (ap (λ (z : Told). z .answer) same ∙ e)) in
-    (ap (λ (z : Told). z .count) same ∙ k .0, ap (λ (z : Told). z .buffer) same ∙ k .1)
+    let same : _≡_ {A = Wrote} (record { number = answer; count = count; buffer = after }) (listOf b time buffer) = lists-so m in
+    let k = refused-untouched b time buffer (λ e. n (ap (λ (z : Wrote). z .number) same ∙ e)) in
+    (ap (λ (z : Wrote). z .count) same ∙ k .0, ap (λ (z : Wrote). z .buffer) same ∙ k .1)
 
 -- 36: a board that is not good, and nothing else.
 
@@ -103,11 +104,11 @@ post-36 b clock r = (forth, λ f. rw (bad-refusal b clock f))
         (λ t. rw t (λ e. absurd (good-refusal b clock g e))))
         (λ f e. f)
 
-list-36 : (b : Board) (time : ℕ) (buffer : List ℕ) → (listOf b time buffer .answer ≡ 36) ↔ (goodBoard b ≡ false)
+list-36 : (b : Board) (time : ℕ) (buffer : List ℕ) → (listOf b time buffer .number ≡ 36) ↔ (goodBoard b ≡ false)
 unfolding listOf
 list-36 b time buffer = (forth, λ f. rw (bad-refusal b time f))
   where
-    forth : listOf b time buffer .answer ≡ 36 → goodBoard b ≡ false
+    forth : listOf b time buffer .number ≡ 36 → goodBoard b ≡ false
     forth =
         by (goodBoard b)
         (λ g. by (eqb (refusalAt b time) 0)
@@ -122,7 +123,7 @@ demand-1 =
       writing = trips.some-writing;
       beginning = (emptyBoard, may-begin);
       posting = λ b clock r. (postOf b clock r .answer, postOf b clock r .board, may-post b clock r);
-      listing = λ b time buffer. (listOf b time buffer .answer, listOf b time buffer .count, listOf b time buffer .buffer, may-list b time buffer);
+      listing = λ b time buffer. (listOf b time buffer .number, listOf b time buffer .count, listOf b time buffer .buffer, may-list b time buffer);
       one-reading = λ b p q m n. determined (reads m) (reads n);
       one-writing = one-writing;
       one-beginning = λ b c m n. determined (begins-so m) (begins-so n);
@@ -136,7 +137,7 @@ demand-1 =
           (λ e. post-36 b clock r .0 (sym same ∙ e), λ f. same ∙ post-36 b clock r .1 f);
       bad-board-list =
           λ b time buffer after answer count m.
-          let same : answer ≡ listOf b time buffer .answer = ap (λ (z : Told). z .answer) (lists-so m) in
+          let same : answer ≡ listOf b time buffer .number = ap (λ (z : Wrote). z .number) (lists-so m) in
           (λ e. list-36 b time buffer .0 (sym same ∙ e), λ f. same ∙ list-36 b time buffer .1 f);
       refused-writing = refused-writing;
       refused-post = refused-post;

@@ -11,9 +11,9 @@ use Rattle.grammar.specs.Reads.{acceptance, readOf}
 use Rattle.grammar.specs.declared.Reply.{Reply}
 use Rattle.cases.specs.Cases.{cancelling, laterSaying}
 use Rattle.cases.proofs.Readings.{sample-read, cancellation-read}
-use Rattle.writer.specs.declared.Written.{Written}
+use Rattle.pens.specs.declared.Written.{Written}
 use Rattle.places.specs.declared.Place.{Place}
-use Rattle.listing.specs.Listings.{Told}
+use Rattle.pens.specs.Outcomes.{Wrote}
 use Rattle.promises.specs.Calls.{History, Run, Happens}
 use Rattle.promises.specs.Calls.Call.{posted, listed}
 use Rattle.promises.specs.Calls.Run.{begun, then-posted, then-listed}
@@ -54,26 +54,26 @@ two-records e = absurd (omega (arith, ap (λ (r : Record). r .line .sequence .nu
 
 -- Boards: the answer to a listing is one.
 
-one-told : {h : History} {time m n j k : ℕ} {buffer x y : List ℕ} → ListAnswered h time buffer m j x → ListAnswered h time buffer n k y
-    → _≡_ {A = Told} (record { answer = m; count = j; buffer = x }) (record { answer = n; count = k; buffer = y })
-one-told (outside o) (outside p) = refl
-one-told (outside o) (early r l) = absurd (o r)
-one-told (outside o) (short y i l) = absurd (o (y .ranged))
-one-told (outside o) (whole y i l) = absurd (o (y .ranged))
-one-told (early r l) (outside p) = absurd (p r)
-one-told (early r l) (early q k) = refl
-one-told (early r l) (short y i k) = absurd (omega (arith, l, y .no-earlier))
-one-told (early r l) (whole y i k) = absurd (omega (arith, l, y .no-earlier))
-one-told (short y i l) (outside p) = absurd (p (y .ranged))
-one-told (short y i l) (early r k) = absurd (omega (arith, k, y .no-earlier))
-one-told (short y i l) (short z j k) = refl
-one-told {h} {time} (short y i l) (whole z j k) =
+one-listing-only : {h : History} {time m n j k : ℕ} {buffer x y : List ℕ} → ListAnswered h time buffer m j x → ListAnswered h time buffer n k y
+    → _≡_ {A = Wrote} (record { number = m; count = j; buffer = x }) (record { number = n; count = k; buffer = y })
+one-listing-only (outside o) (outside p) = refl
+one-listing-only (outside o) (early r l) = absurd (o r)
+one-listing-only (outside o) (short y i l) = absurd (o (y .ranged))
+one-listing-only (outside o) (whole y i l) = absurd (o (y .ranged))
+one-listing-only (early r l) (outside p) = absurd (p r)
+one-listing-only (early r l) (early q k) = refl
+one-listing-only (early r l) (short y i k) = absurd (omega (arith, l, y .no-earlier))
+one-listing-only (early r l) (whole y i k) = absurd (omega (arith, l, y .no-earlier))
+one-listing-only (short y i l) (outside p) = absurd (p (y .ranged))
+one-listing-only (short y i l) (early r k) = absurd (omega (arith, k, y .no-earlier))
+one-listing-only (short y i l) (short z j k) = refl
+one-listing-only {h} {time} (short y i l) (whole z j k) =
     absurd (omega (arith, l, k, ap (λ (v : List Place). length (listing time v)) (one-listing i j)))
-one-told (whole y i l) (outside p) = absurd (p (y .ranged))
-one-told (whole y i l) (early r k) = absurd (omega (arith, k, y .no-earlier))
-one-told {h} {time} (whole y i l) (short z j k) =
+one-listing-only (whole y i l) (outside p) = absurd (p (y .ranged))
+one-listing-only (whole y i l) (early r k) = absurd (omega (arith, k, y .no-earlier))
+one-listing-only {h} {time} (whole y i l) (short z j k) =
     absurd (omega (arith, l, k, ap (λ (v : List Place). length (listing time v)) (one-listing i j)))
-one-told {h} {time} {buffer = buffer} (whole y i l) (whole z j k) =
+one-listing-only {h} {time} {buffer = buffer} (whole y i l) (whole z j k) =
     ap (λ (v : List Place). record { answer = 0; count = length (listing time v); buffer = listing time v ++ drop (length (listing time v)) buffer }) (one-listing i j)
 
 -- what can happen with one board that meets demand 3 can happen with any other that does
@@ -85,8 +85,8 @@ follows {A} {B} a b (posted clock r answer ∷ h) x =
     subst (λ (n : ℕ). B (posted clock r n ∷ h)) (sym same) (y .1)
 follows {A} {B} a b (listed time buffer answer count after ∷ h) x =
     let y = b .listing-answered h (follows a b h (a .earlier (listed time buffer answer count after) h x)) time buffer in
-    let same = one-told (a .lists h time buffer answer count after x) (b .lists h time buffer (y .0) (y .1) (y .2) (y .3)) in
-    subst (λ (t : Told). B (listed time buffer (t .answer) (t .count) (t .buffer) ∷ h)) (sym same) (y .3)
+    let same = one-listing-only (a .lists h time buffer answer count after x) (b .lists h time buffer (y .0) (y .1) (y .2) (y .3)) in
+    subst (λ (t : Wrote). B (listed time buffer (t .number) (t .count) (t .buffer) ∷ h)) (sym same) (y .3)
 
 -- The paper's cases as histories.
 

@@ -3,10 +3,10 @@
 use Rattle.lists.proofs.Determined as lists-laws
 use Rattle.words.proofs.Determined as words-laws
 use Rattle.figures.proofs.Determined as figures-laws
+use Rattle.vocabulary.proofs.Determined as vocabulary-laws
 use Rattle.coordinates.proofs.Determined as coordinates-laws
 use Rattle.groups.proofs.Determined as groups-laws
 use Rattle.headings.proofs.Determined as headings-laws
-use Rattle.keywords.proofs.Determined as keywords-laws
 use Rattle.names.proofs.Determined as names-laws
 use Rattle.levels.proofs.Determined as levels-laws
 use Rattle.motions.proofs.Determined as motions-laws
@@ -28,16 +28,17 @@ functions =
     record {
       lists-both = lists-laws.both-determined;
       lists-either = lists-laws.either-determined;
+      words-is-letter = words-laws.is-letter-determined;
+      words-is-digit = words-laws.is-digit-determined;
       words-check = words-laws.check-determined;
       words-word-at = words-laws.word-at-determined;
-      figures-is-letter = figures-laws.is-letter-determined;
-      figures-is-digit = figures-laws.is-digit-determined;
       figures-letters = figures-laws.letters-determined;
       figures-figures = figures-laws.figures-determined;
       figures-two = figures-laws.two-determined;
       figures-three = figures-laws.three-determined;
       figures-code = figures-laws.code-determined;
       figures-find = figures-laws.find-determined;
+      vocabulary-same-word = vocabulary-laws.same-word-determined;
       coordinates-latitude = coordinates-laws.latitude-determined;
       coordinates-longitude = coordinates-laws.longitude-determined;
       coordinates-good-latitude = coordinates-laws.good-latitude-determined;
@@ -64,11 +65,11 @@ functions =
       headings-office-word = headings-laws.office-word-determined;
       headings-good-sequence = headings-laws.good-sequence-determined;
       headings-sequence-word = headings-laws.sequence-word-determined;
-      keywords-keyword = keywords-laws.keyword-determined;
       names-name-word = names-laws.name-word-determined;
       names-closing-word = names-laws.closing-word-determined;
       names-in-name = names-laws.in-name-determined;
       names-name-text = names-laws.name-text-determined;
+      levels-feet-figures = levels-laws.feet-figures-determined;
       levels-level-word = levels-laws.level-word-determined;
       levels-good-level = levels-laws.good-level-determined;
       levels-empty-level = levels-laws.empty-level-determined;
@@ -76,17 +77,18 @@ functions =
       motions-intensity-word = motions-laws.intensity-word-determined;
       motions-good-speed = motions-laws.good-speed-determined;
       motions-speed-word = motions-laws.speed-word-determined;
+      pens-refused = pens-laws.refused-determined;
       pens-put = pens-laws.put-settles;
       pens-put-all = pens-laws.put-all-settles;
       pens-put-word = pens-laws.put-word-settles;
       pens-put-figures = pens-laws.put-figures-settles;
       pens-put-big-endian = pens-laws.put-big-endian-settles;
+      pens-put-code = pens-laws.put-code-settles;
       pens-put-fixed = pens-laws.put-fixed-settles;
       calendar-limit-of = calendar-laws.limit-of-determined;
       calendar-start-of = calendar-laws.start-of-determined;
       calendar-end-of = calendar-laws.end-of-determined;
       calendar-target-of = calendar-laws.target-of-determined;
-      message-empty = message-laws.empty-determined;
       message-is-good = message-laws.is-good-determined;
       message-names-itself = message-laws.names-itself-determined;
       grammar-refusal = grammar-laws.refusal-determined;

@@ -16,7 +16,8 @@ use Rattle.places.specs.declared.Identity.{Identity}
 use Rattle.places.specs.declared.Place.{Place}
 use Rattle.listing.specs.Order.{Precedes}
 use Rattle.listing.specs.Rows.{rowsOf}
-use Rattle.listing.specs.Listings.{Told, listOf}
+use Rattle.pens.specs.Outcomes.{Wrote}
+use Rattle.listing.specs.Listings.{listOf}
 use Rattle.listing.proofs.ListLaws.{count-most}
 use Rattle.listing.proofs.OrderLaws.{precedes-irreflexive}
 use Rattle.promises.specs.Calls.{Call, History, MayBegin, MayPost, MayList, Run, Happens}
@@ -46,7 +47,7 @@ may-begin = record { lent = tt; allowed = refl }
 pub may-post : (b : Board) (clock : ℕ) (r : Record) → MayPost b clock r (postOf b clock r .answer) (postOf b clock r .board)
 may-post b clock r = record { lent = tt; allowed = refl }
 
-pub may-list : (b : Board) (time : ℕ) (buffer : List ℕ) → MayList b time buffer (listOf b time buffer .answer) (listOf b time buffer .count) (listOf b time buffer .buffer)
+pub may-list : (b : Board) (time : ℕ) (buffer : List ℕ) → MayList b time buffer (listOf b time buffer .number) (listOf b time buffer .count) (listOf b time buffer .buffer)
 may-list b time buffer = record { lent = ([], tt); address = (0, 0); name = 0; allowed = refl }
 
 pub begins-so : {b : Board} → MayBegin b → b ≡ emptyBoard
@@ -136,7 +137,7 @@ later (cancellation-accepted {i = j} y k l u room) e i c m d x =
 pub lists : (h : History) (time : ℕ) (buffer : List ℕ) (answer count : ℕ) (after : List ℕ) → Happens (listed time buffer answer count after ∷ h) → ListAnswered h time buffer answer count after
 lists h time buffer answer count after hp =
     let l = last-list (hp .run) in
-    subst (λ (x : Told). ListAnswered h time buffer (x .answer) (x .count) (x .buffer)) (sym (l .says)) (list-cause (tracked (l .run)) time buffer)
+    subst (λ (x : Wrote). ListAnswered h time buffer (x .number) (x .count) (x .buffer)) (sym (l .says)) (list-cause (tracked (l .run)) time buffer)
 
 module _ {h : History} {time : ℕ} {buffer : List ℕ} where
   exactly : {answer count : ℕ} {after : List ℕ} → ListAnswered h time buffer answer count after → Timely h time → (rows : List Place) → IsListing h time rows
@@ -154,19 +155,19 @@ earlier : (call : Call) (h : History) → Happens (call ∷ h) → Happens h
 earlier (posted clock r answer) h hp = let l = last-post (hp .run) in record { board = l .board; run = l .run }
 earlier (listed time buffer answer count after) h hp = let l = last-list (hp .run) in record { board = l .board; run = l .run }
 
-one-told : (h : History) (time : ℕ) (buffer : List ℕ) (m n j k : ℕ) (x y : List ℕ) → Happens (listed time buffer m j x ∷ h) → Happens (listed time buffer n k y ∷ h)
+one-listing-only : (h : History) (time : ℕ) (buffer : List ℕ) (m n j k : ℕ) (x y : List ℕ) → Happens (listed time buffer m j x ∷ h) → Happens (listed time buffer n k y ∷ h)
     → (m ≡ n) × (j ≡ k) × (x ≡ y)
-one-told h time buffer m n j k x y p q =
+one-listing-only h time buffer m n j k x y p q =
     let l = last-list (p .run) in
     let o = last-list (q .run) in
-    let same : _≡_ {A = Told} (record { answer = m; count = j; buffer = x }) (record { answer = n; count = k; buffer = y }) =
+    let same : _≡_ {A = Wrote} (record { number = m; count = j; buffer = x }) (record { number = n; count = k; buffer = y }) =
     l .says ∙ (ap (λ (b : Board). listOf b time buffer) (one-board (l .run) (o .run)) ∙ sym (o .says)) in
-    (ap (λ (u : Told). u .answer) same, ap (λ (u : Told). u .count) same, ap (λ (u : Told). u .buffer) same)
+    (ap (λ (u : Wrote). u .number) same, ap (λ (u : Wrote). u .count) same, ap (λ (u : Wrote). u .buffer) same)
 
 at-most : (h : History) (time : ℕ) (buffer : List ℕ) (answer count : ℕ) (after : List ℕ) → Happens (listed time buffer answer count after ∷ h) → count ≤ 1093
 at-most h time buffer answer count after hp =
     let l = last-list (hp .run) in
-    let same : count ≡ listOf (l .board) time buffer .count = ap (λ (u : Told). u .count) (l .says) in
+    let same : count ≡ listOf (l .board) time buffer .count = ap (λ (u : Wrote). u .count) (l .says) in
     omega (arith, same, count-most (l .board) time buffer)
 
 -- a message of a new identity is accepted where there is room
@@ -191,11 +192,11 @@ demand-3 =
           (postOf (hp .board) clock r .answer, record { board = postOf (hp .board) clock r .board; run = then-posted (hp .run) (may-post (hp .board) clock r) });
       listing-answered =
           λ h hp time buffer.
-          let told : Told = listOf (hp .board) time buffer in
-          (told .answer, told .count, told .buffer, record { board = hp .board; run = then-listed (hp .run) (may-list (hp .board) time buffer) });
+          let wrote : Wrote = listOf (hp .board) time buffer in
+          (wrote .number, wrote .count, wrote .buffer, record { board = hp .board; run = then-listed (hp .run) (may-list (hp .board) time buffer) });
       earlier = earlier;
       one-answer = λ h clock r m n x y. sym (turned-away h clock r n y m .1 (turned-away h clock r m x m .0 refl));
-      one-listing = one-told;
+      one-listing = one-listing-only;
       lists-exactly = λ h time buffer answer count after hp. exactly (lists h time buffer answer count after hp);
       lists = lists;
       at-most-1093 = at-most;

@@ -19,7 +19,8 @@ use Rattle.places.specs.declared.Place.{Place}
 use Rattle.board.proofs.Invariant.{board-parts}
 use Rattle.listing.specs.Order.{Before, precedes}
 use Rattle.listing.specs.Rows.{inForce, selected, inserted, sortedAfter, rowsOf}
-use Rattle.listing.specs.Listings.{listingOf, Told, listOf}
+use Rattle.pens.specs.Outcomes.{Wrote}
+use Rattle.listing.specs.Listings.{listingOf, listOf}
 use Rattle.listing.proofs.OrderLaws.{precedes-irreflexive, precedes-transitive}
 use Rattle.listing.proofs.RowLaws.{rows-ordered, rows-most}
 use Rattle.promises.specs.Calls.{History}
@@ -205,8 +206,8 @@ one-listing {h} {time} {xs} {ys} a c =
 
 -- The answer to a listing.
 
-abbrev Ends : History → ℕ → List ℕ → Told → Type 0
-Ends h time buffer x = ListAnswered h time buffer (x .answer) (x .count) (x .buffer)
+abbrev Ends : History → ℕ → List ℕ → Wrote → Type 0
+Ends h time buffer x = ListAnswered h time buffer (x .number) (x .count) (x .buffer)
 
 module _ {h : History} {b : Board} (t : Tracks h b) (time : ℕ) (buffer : List ℕ) where
   list-ends : {n : ℕ} → Clocked h time n → refusalAt b time ≡ n → Ends h time buffer (listOf b time buffer)

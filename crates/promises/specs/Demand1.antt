@@ -10,7 +10,7 @@ use Prim.Native.Nat.{ℕ}
 use Rattle.message.specs.declared.Record.{Record}
 use Rattle.grammar.specs.Replies.{Replied}
 use Rattle.grammar.specs.declared.Reply.{Reply}
-use Rattle.writer.specs.declared.Written.{Written}
+use Rattle.pens.specs.declared.Written.{Written}
 use Rattle.roundtrips.specs.Trips.{MayRead, MayWrite, Outcome}
 use Rattle.board.specs.Boards.{goodBoard}
 use Rattle.board.specs.declared.Board.{Board}

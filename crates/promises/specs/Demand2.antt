@@ -16,7 +16,7 @@ use Rattle.grammar.specs.Judged.{messageWords}
 use Rattle.grammar.specs.Layout.{Canonical}
 use Rattle.grammar.specs.Reads.{acceptance, textIn}
 use Rattle.grammar.specs.declared.Reply.{Reply}
-use Rattle.writer.specs.declared.Written.{Written}
+use Rattle.pens.specs.declared.Written.{Written}
 
 -- the bulletin is a form of the paper, and means this record: it has the words of a good record and the `=`, and nothing that numbers 1
 -- to 3 are for

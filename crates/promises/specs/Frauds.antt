@@ -9,7 +9,7 @@ use Prim.Native.Nat.{ℕ}
 use lib.ListN.{length}
 use Rattle.message.specs.declared.Record.{Record}
 use Rattle.grammar.specs.declared.Reply.{Reply}
-use Rattle.writer.specs.declared.Written.{Written}
+use Rattle.pens.specs.declared.Written.{Written}
 use Rattle.places.specs.declared.Place.{Place}
 use Rattle.promises.specs.Calls.{History, Happens}
 use Rattle.promises.specs.Calls.Call.{posted, listed}

@@ -8,14 +8,14 @@ use Rattle.lists.proofs.both.Kinds as lists-both-kinds
 use Rattle.lists.proofs.both.Reads as lists-both-reads
 use Rattle.lists.proofs.either.Kinds as lists-either-kinds
 use Rattle.lists.proofs.either.Reads as lists-either-reads
+use Rattle.words.proofs.is_letter.Kinds as words-is-letter-kinds
+use Rattle.words.proofs.is_letter.Reads as words-is-letter-reads
+use Rattle.words.proofs.is_digit.Kinds as words-is-digit-kinds
+use Rattle.words.proofs.is_digit.Reads as words-is-digit-reads
 use Rattle.words.proofs.check.Kinds as words-check-kinds
 use Rattle.words.proofs.check.Reads as words-check-reads
 use Rattle.words.proofs.word_at.Kinds as words-word-at-kinds
 use Rattle.words.proofs.word_at.Reads as words-word-at-reads
-use Rattle.figures.proofs.is_letter.Kinds as figures-is-letter-kinds
-use Rattle.figures.proofs.is_letter.Reads as figures-is-letter-reads
-use Rattle.figures.proofs.is_digit.Kinds as figures-is-digit-kinds
-use Rattle.figures.proofs.is_digit.Reads as figures-is-digit-reads
 use Rattle.figures.proofs.letters.Kinds as figures-letters-kinds
 use Rattle.figures.proofs.letters.Reads as figures-letters-reads
 use Rattle.figures.proofs.figures.Kinds as figures-figures-kinds
@@ -28,6 +28,8 @@ use Rattle.figures.proofs.code.Kinds as figures-code-kinds
 use Rattle.figures.proofs.code.Reads as figures-code-reads
 use Rattle.figures.proofs.find.Kinds as figures-find-kinds
 use Rattle.figures.proofs.find.Reads as figures-find-reads
+use Rattle.vocabulary.proofs.same_word.Kinds as vocabulary-same-word-kinds
+use Rattle.vocabulary.proofs.same_word.Reads as vocabulary-same-word-reads
 use Rattle.coordinates.proofs.latitude.Kinds as coordinates-latitude-kinds
 use Rattle.coordinates.proofs.latitude.Reads as coordinates-latitude-reads
 use Rattle.coordinates.proofs.longitude.Kinds as coordinates-longitude-kinds
@@ -80,8 +82,6 @@ use Rattle.headings.proofs.good_sequence.Kinds as headings-good-sequence-kinds
 use Rattle.headings.proofs.good_sequence.Reads as headings-good-sequence-reads
 use Rattle.headings.proofs.sequence_word.Kinds as headings-sequence-word-kinds
 use Rattle.headings.proofs.sequence_word.Reads as headings-sequence-word-reads
-use Rattle.keywords.proofs.keyword.Kinds as keywords-keyword-kinds
-use Rattle.keywords.proofs.keyword.Reads as keywords-keyword-reads
 use Rattle.names.proofs.name_word.Kinds as names-name-word-kinds
 use Rattle.names.proofs.name_word.Reads as names-name-word-reads
 use Rattle.names.proofs.closing_word.Kinds as names-closing-word-kinds
@@ -90,6 +90,8 @@ use Rattle.names.proofs.in_name.Kinds as names-in-name-kinds
 use Rattle.names.proofs.in_name.Reads as names-in-name-reads
 use Rattle.names.proofs.name_text.Kinds as names-name-text-kinds
 use Rattle.names.proofs.name_text.Reads as names-name-text-reads
+use Rattle.levels.proofs.feet_figures.Kinds as levels-feet-figures-kinds
+use Rattle.levels.proofs.feet_figures.Reads as levels-feet-figures-reads
 use Rattle.levels.proofs.level_word.Kinds as levels-level-word-kinds
 use Rattle.levels.proofs.level_word.Reads as levels-level-word-reads
 use Rattle.levels.proofs.good_level.Kinds as levels-good-level-kinds
@@ -104,6 +106,8 @@ use Rattle.motions.proofs.good_speed.Kinds as motions-good-speed-kinds
 use Rattle.motions.proofs.good_speed.Reads as motions-good-speed-reads
 use Rattle.motions.proofs.speed_word.Kinds as motions-speed-word-kinds
 use Rattle.motions.proofs.speed_word.Reads as motions-speed-word-reads
+use Rattle.pens.proofs.refused.Kinds as pens-refused-kinds
+use Rattle.pens.proofs.refused.Reads as pens-refused-reads
 use Rattle.pens.proofs.put.Kinds as pens-put-kinds
 use Rattle.pens.proofs.put.Reads as pens-put-reads
 use Rattle.pens.proofs.put_all.Kinds as pens-put-all-kinds
@@ -114,6 +118,8 @@ use Rattle.pens.proofs.put_figures.Kinds as pens-put-figures-kinds
 use Rattle.pens.proofs.put_figures.Reads as pens-put-figures-reads
 use Rattle.pens.proofs.put_big_endian.Kinds as pens-put-big-endian-kinds
 use Rattle.pens.proofs.put_big_endian.Reads as pens-put-big-endian-reads
+use Rattle.pens.proofs.put_code.Kinds as pens-put-code-kinds
+use Rattle.pens.proofs.put_code.Reads as pens-put-code-reads
 use Rattle.pens.proofs.put_fixed.Kinds as pens-put-fixed-kinds
 use Rattle.pens.proofs.put_fixed.Reads as pens-put-fixed-reads
 use Rattle.calendar.proofs.limit_of.Kinds as calendar-limit-of-kinds
@@ -124,8 +130,6 @@ use Rattle.calendar.proofs.end_of.Kinds as calendar-end-of-kinds
 use Rattle.calendar.proofs.end_of.Reads as calendar-end-of-reads
 use Rattle.calendar.proofs.target_of.Kinds as calendar-target-of-kinds
 use Rattle.calendar.proofs.target_of.Reads as calendar-target-of-reads
-use Rattle.message.proofs.empty.Kinds as message-empty-kinds
-use Rattle.message.proofs.empty.Reads as message-empty-reads
 use Rattle.message.proofs.is_good.Kinds as message-is-good-kinds
 use Rattle.message.proofs.is_good.Reads as message-is-good-reads
 use Rattle.message.proofs.names_itself.Kinds as message-names-itself-kinds
@@ -166,17 +170,19 @@ pub record Functions : Type 0 where
   pub lists-both : Determines 0 lists-both-kinds.ps lists-both-kinds.r lists-both-reads.Learnt
   pub lists-either : Determines 0 lists-either-kinds.ps lists-either-kinds.r lists-either-reads.Learnt
   -- words
+  pub words-is-letter : Determines 0 words-is-letter-kinds.ps words-is-letter-kinds.r words-is-letter-reads.Learnt
+  pub words-is-digit : Determines 0 words-is-digit-kinds.ps words-is-digit-kinds.r words-is-digit-reads.Learnt
   pub words-check : Determines 1 words-check-kinds.ps words-check-kinds.r words-check-reads.Learnt
   pub words-word-at : Determines 1 words-word-at-kinds.ps words-word-at-kinds.r words-word-at-reads.Learnt
   -- figures
-  pub figures-is-letter : Determines 0 figures-is-letter-kinds.ps figures-is-letter-kinds.r figures-is-letter-reads.Learnt
-  pub figures-is-digit : Determines 0 figures-is-digit-kinds.ps figures-is-digit-kinds.r figures-is-digit-reads.Learnt
   pub figures-letters : Determines 1 figures-letters-kinds.ps figures-letters-kinds.r figures-letters-reads.Learnt
   pub figures-figures : Determines 1 figures-figures-kinds.ps figures-figures-kinds.r figures-figures-reads.Learnt
   pub figures-two : Determines 1 figures-two-kinds.ps figures-two-kinds.r figures-two-reads.Learnt
   pub figures-three : Determines 1 figures-three-kinds.ps figures-three-kinds.r figures-three-reads.Learnt
   pub figures-code : Determines 1 figures-code-kinds.ps figures-code-kinds.r figures-code-reads.Learnt
   pub figures-find : Determines 1 figures-find-kinds.ps figures-find-kinds.r figures-find-reads.Learnt
+  -- vocabulary
+  pub vocabulary-same-word : Determines 2 vocabulary-same-word-kinds.ps vocabulary-same-word-kinds.r vocabulary-same-word-reads.Learnt
   -- coordinates
   pub coordinates-latitude : Determines 1 coordinates-latitude-kinds.ps coordinates-latitude-kinds.r coordinates-latitude-reads.Learnt
   pub coordinates-longitude : Determines 1 coordinates-longitude-kinds.ps coordinates-longitude-kinds.r coordinates-longitude-reads.Learnt
@@ -206,14 +212,13 @@ pub record Functions : Type 0 where
   pub headings-office-word : Determines 1 headings-office-word-kinds.ps headings-office-word-kinds.r headings-office-word-reads.Learnt
   pub headings-good-sequence : Determines 0 headings-good-sequence-kinds.ps headings-good-sequence-kinds.r headings-good-sequence-reads.Learnt
   pub headings-sequence-word : Determines 1 headings-sequence-word-kinds.ps headings-sequence-word-kinds.r headings-sequence-word-reads.Learnt
-  -- keywords
-  pub keywords-keyword : Determines 1 keywords-keyword-kinds.ps keywords-keyword-kinds.r keywords-keyword-reads.Learnt
   -- names
   pub names-name-word : Determines 1 names-name-word-kinds.ps names-name-word-kinds.r names-name-word-reads.Learnt
   pub names-closing-word : Determines 1 names-closing-word-kinds.ps names-closing-word-kinds.r names-closing-word-reads.Learnt
   pub names-in-name : Determines 1 names-in-name-kinds.ps names-in-name-kinds.r names-in-name-reads.Learnt
   pub names-name-text : Determines 1 names-name-text-kinds.ps names-name-text-kinds.r names-name-text-reads.Learnt
   -- levels
+  pub levels-feet-figures : Determines 0 levels-feet-figures-kinds.ps levels-feet-figures-kinds.r levels-feet-figures-reads.Learnt
   pub levels-level-word : Determines 1 levels-level-word-kinds.ps levels-level-word-kinds.r levels-level-word-reads.Learnt
   pub levels-good-level : Determines 0 levels-good-level-kinds.ps levels-good-level-kinds.r levels-good-level-reads.Learnt
   pub levels-empty-level : Determines 0 levels-empty-level-kinds.ps levels-empty-level-kinds.r levels-empty-level-reads.Learnt
@@ -223,11 +228,13 @@ pub record Functions : Type 0 where
   pub motions-good-speed : Determines 0 motions-good-speed-kinds.ps motions-good-speed-kinds.r motions-good-speed-reads.Learnt
   pub motions-speed-word : Determines 1 motions-speed-word-kinds.ps motions-speed-word-kinds.r motions-speed-word-reads.Learnt
   -- pens
+  pub pens-refused : Determines 0 pens-refused-kinds.ps pens-refused-kinds.r pens-refused-reads.Learnt
   pub pens-put : Settles 1 pens-put-kinds.ps pens-put-kinds.r pens-put-reads.Learnt
   pub pens-put-all : Settles 2 pens-put-all-kinds.ps pens-put-all-kinds.r pens-put-all-reads.Learnt
   pub pens-put-word : Settles 2 pens-put-word-kinds.ps pens-put-word-kinds.r pens-put-word-reads.Learnt
   pub pens-put-figures : Settles 1 pens-put-figures-kinds.ps pens-put-figures-kinds.r pens-put-figures-reads.Learnt
   pub pens-put-big-endian : Settles 1 pens-put-big-endian-kinds.ps pens-put-big-endian-kinds.r pens-put-big-endian-reads.Learnt
+  pub pens-put-code : Settles 1 pens-put-code-kinds.ps pens-put-code-kinds.r pens-put-code-reads.Learnt
   pub pens-put-fixed : Settles 1 pens-put-fixed-kinds.ps pens-put-fixed-kinds.r pens-put-fixed-reads.Learnt
   -- calendar
   pub calendar-limit-of : Determines 0 calendar-limit-of-kinds.ps calendar-limit-of-kinds.r calendar-limit-of-reads.Learnt
@@ -235,7 +242,6 @@ pub record Functions : Type 0 where
   pub calendar-end-of : Determines 0 calendar-end-of-kinds.ps calendar-end-of-kinds.r calendar-end-of-reads.Learnt
   pub calendar-target-of : Determines 0 calendar-target-of-kinds.ps calendar-target-of-kinds.r calendar-target-of-reads.Learnt
   -- message
-  pub message-empty : Determines 0 message-empty-kinds.ps message-empty-kinds.r message-empty-reads.Learnt
   pub message-is-good : Determines 0 message-is-good-kinds.ps message-is-good-kinds.r message-is-good-reads.Learnt
   pub message-names-itself : Determines 0 message-names-itself-kinds.ps message-names-itself-kinds.r message-names-itself-reads.Learnt
   -- grammar

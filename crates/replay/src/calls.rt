@@ -23,5 +23,5 @@ pub(crate) fn post_text(board: Board, clock: u32, bulletin: &[u8]) -> Board {
 pub(crate) fn list_into(board: Board, time: u32, out: &mut [u8]) {
     let listed = list(board, time, out);
     let count = listed.count;
-    tell_listed(listed.answer as u64, &out[..count]);
+    tell_listed(listed.number as u64, &out[..count]);
 }

@@ -2,9 +2,9 @@
 ghost use mathlib.Core.Path.{_≡_};
 ghost use Prim.Native.Nat.{_≤_};
 ghost use lib.ListN.{length};
-ghost use Rattle.words.specs.Bytes.{digit};
 ghost use Rattle.replay.specs.Numbers.{figuresEnd, grownBy, capped, valueFrom, noNumber, numberAt};
 use lists::both;
+use words::is_digit;
 
 // Was the byte there?
 pub(crate) struct Skipped {
@@ -50,12 +50,6 @@ pub(crate) fn skip(script: &[u8], at: usize, byte: u8) -> Skipped
     }
 }
 
-fn is_figure(x: u8) -> bool
-    ensures { λ r. ⌜ r ≡ digit x ⌝ }
-{
-    both(b'0' <= x, x <= b'9')
-}
-
 // The place of the first byte from there on that is no figure, or the script's length.
 fn figures_end(script: &[u8], at: usize) -> usize
     requires { ⌜ at ≤ length (now script) ⌝ }
@@ -63,7 +57,7 @@ fn figures_end(script: &[u8], at: usize) -> usize
 {
     let mut i = at;
     while i < script.len() {
-        if !is_figure(script[i]) {
+        if !is_digit(script[i]) {
             return i;
         }
         i += 1;

@@ -16,11 +16,12 @@ use Rattle.message.specs.declared.Record.{Record}
 use Rattle.grammar.specs.Reads.{acceptance, readOf}
 use Rattle.grammar.specs.Replies.{Replied}
 use Rattle.grammar.specs.Replies.Replied.{unreadable, readAs, refusedAs}
-use Rattle.grammar.specs.Writes.{Wrote, writeOf}
+use Rattle.grammar.specs.Writes.{writeOf}
+use Rattle.pens.specs.Outcomes.{Wrote}
 use Rattle.grammar.specs.declared.Reply.{Reply}
 use Rattle.grammar.proofs.Lengths.{text-fits}
-use Rattle.writer.specs.Writing.{wrote}
-use Rattle.writer.specs.declared.Written.{Written}
+use Rattle.pens.specs.Outcomes.{wrote}
+use Rattle.pens.specs.declared.Written.{Written}
 use Rattle.roundtrips.specs.Trips.{MayRead, MayWrite, Outcome}
 use Rattle.roundtrips.specs.Trips.Outcome.{bad, short, whole}
 

@@ -15,12 +15,13 @@ use Rattle.message.specs.declared.Record.{Record}
 use Rattle.grammar.specs.Layout.{Canonical}
 use Rattle.grammar.specs.Reads.{acceptance, readOf}
 use Rattle.grammar.specs.Replies.{Replied}
-use Rattle.grammar.specs.Writes.{Wrote, writeOf, written}
+use Rattle.grammar.specs.Writes.{writeOf}
+use Rattle.pens.specs.Outcomes.{Wrote, written}
 use Rattle.grammar.specs.declared.Reply.{Reply}
 use Rattle.grammar.proofs.Lengths.{text-fits}
 use Rattle.grammar.proofs.Theorems as grammar
-use Rattle.writer.specs.Writing.{wrote}
-use Rattle.writer.specs.declared.Written.{Written}
+use Rattle.pens.specs.Outcomes.{wrote}
+use Rattle.pens.specs.declared.Written.{Written}
 use Rattle.roundtrips.specs.Trips.{MayRead, MayWrite, Outcome}
 use Rattle.roundtrips.proofs.Outcomes.{reads, accepted, writes, ends, put-whole, untouched, numbers, at-zero, at-thirteen, at-fourteen}
 

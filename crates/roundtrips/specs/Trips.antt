@@ -15,7 +15,7 @@ use Rattle.message.specs.declared.Record.{Record}
 use Rattle.grammar.specs.declared.Reply.{Reply}
 use Rattle.reader.proofs.read.Reads as read-reads
 use Rattle.writer.proofs.write.Reads as write-reads
-use Rattle.writer.specs.declared.Written.{Written}
+use Rattle.pens.specs.declared.Written.{Written}
 
 -- a slice with these contents
 abbrev pub slice : ℕ × ℕ → GName → List ℕ → RefT (List ℕ)

@@ -2,7 +2,7 @@
 -- Assumes nothing.
 use mathlib.Core.Path.{_≡_, sym, _∙_}
 use Rattle.lists.specs.Determined.{Settles}
-use Rattle.writer.specs.Writing.{wrote}
+use Rattle.pens.specs.Outcomes.{wrote}
 use Rattle.writer.proofs.write.Kinds as write-kinds
 use Rattle.writer.proofs.write.Reads as write-reads
 

@@ -11,7 +11,8 @@ use Rattle.lists.specs.Choice.{pick}
 use Rattle.message.specs.Records.{good}
 use Rattle.message.specs.Words.{textOf}
 use Rattle.message.specs.declared.Record.{Record}
-use Rattle.grammar.specs.Writes.{Wrote, unwritten, written, writeOf}
+use Rattle.grammar.specs.Writes.{writeOf}
+use Rattle.pens.specs.Outcomes.{Wrote, unwritten, written}
 
 abbrev Within : Wrote → Type 0
 Within w = w .count ≤ length (w .buffer)

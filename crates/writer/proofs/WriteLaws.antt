@@ -17,8 +17,8 @@ use Rattle.grammar.proofs.Lengths.{text-fits}
 use Rattle.pens.specs.Pens.{Puts}
 use Rattle.pens.proofs.PenLaws.{put-place, put-page}
 use Rattle.writer_sections.specs.Sections.{goodText}
-use Rattle.writer.specs.Writing.{wrote}
-use Rattle.writer.specs.declared.Written.{Written}
+use Rattle.pens.specs.Outcomes.{wrote}
+use Rattle.pens.specs.declared.Written.{Written}
 
 -- The page.
 

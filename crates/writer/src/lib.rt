@@ -1,25 +1,15 @@
 // The writer: a record to its canonical text.
 ghost use mathlib.Core.Path.{_≡_};
 ghost use Rattle.grammar.specs.Writes.{writeOf};
-ghost use Rattle.writer.specs.Writing.{wrote};
+ghost use Rattle.pens.specs.Outcomes.{wrote};
 use message::Record;
+use pens::Written;
 use pens::put_all;
+use pens::refused;
 use writer_sections::put_text;
 
 // The most bytes that a text may have.
 const MOST_BYTES: usize = 2048;
-
-// The refusal number, 0 for none, and the count of bytes written, 0 where refused.
-pub struct Written {
-    pub number: u8,
-    pub count: usize,
-}
-
-fn refused(number: u8) -> Written
-    ensures { λ r. ⌜ (r .number ≡ number) × (r .count ≡ 0) ⌝ }
-{
-    Written { number, count: 0 }
-}
 
 // Writes the canonical text at the front of the buffer. No byte is put on the page for a record that is not good. The page has one byte more than
 // a text may have, so that a longer one is seen.

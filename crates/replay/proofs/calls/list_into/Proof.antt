@@ -5,13 +5,13 @@ use native.Mathlib.Omega.{arith}
 use lib.ListN.{length}
 use borrow.Author.Needs.{needs}
 use Rattle.io.proofs.Counting.{front}
-use Rattle.listing.specs.Listings.{Told}
+use Rattle.pens.specs.Outcomes.{Wrote}
 use Rattle.listing.proofs.ListLaws.{within}
 use Rattle.replay.proofs.calls.list_into.Statement.{statement}
 use Rattle.replay.proofs.calls.list_into.Tie as tie
 
 counted : (c : tie.After-list) → c .list .result .count ≤ length (c .before .before .before .args .out .now)
-counted c = omega (arith, ap (λ (t : Told). t .count) (c .list .ensures), within (c .before .before .before .args .board) (c .before .before .before .args .time) (c .before .before .before .args .out .now))
+counted c = omega (arith, ap (λ (t : Wrote). t .count) (c .list .ensures), within (c .before .before .before .args .board) (c .before .before .before .args .time) (c .before .before .before .args .out .now))
 
 list-requires : tie.Need-list-requires
 list-requires c κs = search needs

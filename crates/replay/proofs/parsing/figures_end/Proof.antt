@@ -18,11 +18,11 @@ abbrev μ-loop : tie.MeasureT-loop
 loop-holds : tie.Need-loop-holds Inv-loop μ-loop
 loop-holds c = (omega arith, omega arith, refl)
 
-shared-slice-read-is-figure : tie.Need-shared-slice-read-is-figure Inv-loop μ-loop
-shared-slice-read-is-figure c = omega arith
+shared-slice-read-is-digit : tie.Need-shared-slice-read-is-digit Inv-loop μ-loop
+shared-slice-read-is-digit c = omega arith
 
-is-figure-requires : tie.Need-is-figure-requires Inv-loop μ-loop
-is-figure-requires c κs = search needs
+is-digit-requires : tie.Need-is-digit-requires Inv-loop μ-loop
+is-digit-requires c κs = search needs
 
 returns : tie.Need-returns Inv-loop μ-loop
 returns c = (omega arith, omega arith, walk-found noFigure (c .before .before .before .before .before .before .args .script .now) (c .before .before .before .before .loop .i) (c .before .before .before .before .loop .inv .2) (omega arith) (cc))
@@ -46,8 +46,8 @@ figures-end-spec =
     Inv-loop
     μ-loop
     loop-holds
-    shared-slice-read-is-figure
-    is-figure-requires
+    shared-slice-read-is-digit
+    is-digit-requires
     returns
     add-i
     loop-less

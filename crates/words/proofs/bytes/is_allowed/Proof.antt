@@ -62,8 +62,16 @@ returns-3 : tie.Need-returns-3
 returns-3 c =
     let neither = c .before .before .before .before .before .before .before .before in
     another _ (neither .before .before .before .is-letter .ensures) (neither .before .before .if1 .left) (neither .before .is-digit .ensures) (neither .if2 .left)
-    (rw (c .either7 .ensures, c .before .either6 .ensures, c .before .before .either5 .ensures, c .before .before .before .is-blank .ensures, c .before .before .before .before .either4 .ensures,
-    c .before .before .before .before .before .either3 .ensures, c .before .before .before .before .before .before .either2 .ensures, c .before .before .before .before .before .before .before .either .ensures))
+    (rw (
+      c .either7 .ensures,
+      c .before .either6 .ensures,
+      c .before .before .either5 .ensures,
+      c .before .before .before .is-blank .ensures,
+      c .before .before .before .before .either4 .ensures,
+      c .before .before .before .before .before .either3 .ensures,
+      c .before .before .before .before .before .before .either2 .ensures,
+      c .before .before .before .before .before .before .before .either .ensures,
+    ))
 
 pub is-allowed-spec : {M : Type 1} → statement M
 is-allowed-spec =

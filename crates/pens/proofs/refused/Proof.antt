@@ -1,7 +1,7 @@
 -- `refused` meets its contract: the number given, and no byte counted. Assumes nothing.
 use mathlib.Core.Path.{refl}
-use Rattle.writer.proofs.refused.Statement.{statement}
-use Rattle.writer.proofs.refused.Tie as tie
+use Rattle.pens.proofs.refused.Statement.{statement}
+use Rattle.pens.proofs.refused.Tie as tie
 
 returns : tie.Need-returns
 returns c = (refl, refl)
