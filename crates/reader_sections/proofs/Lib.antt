@@ -7,5 +7,6 @@ pub mod Sides
 pub mod FirstWords
 pub mod Determined
 pub mod Storms
+pub mod NameBytes
 pub mod NameText
 pub mod OutlineLaws

@@ -1,8 +1,6 @@
 -- `grown_name` meets its contract: a space and the word behind a text are the text grown. Assumes nothing.
 use borrow.Author.Needs.{needs}
-use denote.Ref.{now}
-use mathlib.Core.Path.{refl}
-use Rattle.reader_sections.proofs.NameText.{grown-says}
+use Rattle.reader_sections.proofs.NameBytes.{grown-says}
 use Rattle.reader_sections.proofs.name.grown_name.Statement.{statement}
 use Rattle.reader_sections.proofs.name.grown_name.Tie as tie
 
@@ -22,9 +20,7 @@ add-t11 : tie.Need-add-t11
 add-t11 c = search needs
 
 returns : tie.Need-returns
-returns c =
-    let given = c .before .before .before .args in
-    grown-says (given .name) (now (given .w)) _ _ (search needs) (c .put-word .ensures) refl
+returns c = search (grown-says, needs)
 
 pub grown-name-spec : {M : Type 1} → statement M
 grown-name-spec =
