@@ -1,7 +1,7 @@
 -- `cancellation_body` meets its contract: what is cancelled, and the `=`. Assumes nothing.
 use borrow.Author.Needs.{needs}
 use mathlib.Core.List.{List}
-use Prim.Native.Nat.{ℕ, _-_}
+use Prim.Native.Nat.{ℕ}
 use Rattle.reader_sections.specs.Forms.{CancellationSays}
 use Rattle.message.specs.Reports.{noReport}
 use Rattle.message.specs.declared.FirstLine.{FirstLine}

@@ -1,7 +1,7 @@
 -- `long_test_body` meets its contract: the text of the test, and the `=`. Assumes nothing.
 use borrow.Author.Needs.{needs}
 use mathlib.Core.List.{List}
-use Prim.Native.Nat.{ℕ, _-_}
+use Prim.Native.Nat.{ℕ}
 use Rattle.reader_sections.specs.Forms.{LongTestSays}
 use Rattle.message.specs.Reports.{noReport}
 use Rattle.message.specs.declared.Form.the-variants.{Test}

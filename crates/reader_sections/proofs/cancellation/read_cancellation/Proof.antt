@@ -2,7 +2,7 @@
 use borrow.Author.Needs.{needs}
 use mathlib.Core.List.{List}
 use mathlib.Core.Path.{refl}
-use Prim.Native.Nat.{ℕ, _-_}
+use Prim.Native.Nat.{ℕ}
 use Rattle.groups.specs.Groups.{periodOf}
 use Rattle.groups.specs.declared.Period.{Period}
 use Rattle.headings.specs.Sequences.{sequenceOf, goodSequence}

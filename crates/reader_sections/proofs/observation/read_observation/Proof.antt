@@ -2,7 +2,7 @@
 use borrow.Author.Needs.{needs}
 use mathlib.Core.List.{List}
 use mathlib.Core.Path.{_≡_, refl}
-use Prim.Native.Nat.{ℕ, _-_}
+use Prim.Native.Nat.{ℕ}
 use lib.Dec.{eqb}
 use Rattle.message.specs.declared.Observation.{Observation}
 use Rattle.grammar.specs.States.State.{atObservation, atObserved}
@@ -17,13 +17,13 @@ use Rattle.reader_sections.proofs.observation.read_observation.Statemen
 use Rattle.reader_sections.proofs.observation.read_observation.Tie as tie
 
 module _ {t : List ℕ} {from a to : Step} {code : ℕ} {o : Observation} (f : Stands t from) (e : code ≡ codeAt t from) where
-  observed : code ≡ 0x014f4253 → Before t (from .end) a → ObservedSays 1 t a to o → ObservationSays t from to o
+  obs : code ≡ 0x014f4253 → Before t (from .end) a → ObservedSays 1 t a to o → ObservationSays t from to o
   unfolding step
-  observed y p rest = record { says = λ q. then (takes-code f e fixed-obs y p (atObservation q) (atObserved q 1) (λ z i. rw i)) (rest .says q); stands = rest .stands }
+  obs y p rest = record { says = λ q. then (takes-code f e fixed-obs y p (atObservation q) (atObserved q 1) (λ z i. rw i)) (rest .says q); stands = rest .stands }
 
-  forecast : (code ≡ 0x014f4253 → ⊥) → Judged t from (eqb code 0x0146435354) 8 a → ObservedSays 2 t a to o → ObservationSays t from to o
+  fcst : (code ≡ 0x014f4253 → ⊥) → Judged t from (eqb code 0x0146435354) 8 a → ObservedSays 2 t a to o → ObservationSays t from to o
   unfolding step
-  forecast n j rest = record {
+  fcst n j rest = record {
     says = λ q. then (takes-fixed f e j .says _ fixed-fcst (atObservation q) (atObserved q 2) (λ z. rw (code-no f e z fixed-obs n)) refl) (rest .says q);
     stands = rest .stands;
   }
@@ -38,7 +38,7 @@ read-observed-requires : tie.Need-read-observed-requires
 read-observed-requires c κs = search needs
 
 returns : tie.Need-returns
-returns c = search observed
+returns c = search obs
 
 judged-requires : tie.Need-judged-requires
 judged-requires c κs = search needs
@@ -47,7 +47,7 @@ read-observed-requires-2 : tie.Need-read-observed-requires-2
 read-observed-requires-2 c κs = search needs
 
 returns-2 : tie.Need-returns-2
-returns-2 c = search forecast
+returns-2 c = search fcst
 
 pub read-observation-spec : {M : Type 1} → statement M
 read-observation-spec =

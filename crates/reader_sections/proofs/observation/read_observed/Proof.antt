@@ -3,7 +3,7 @@ use borrow.Author.Needs.{needs}
 use mathlib.Core.Bool.{Bool, true, false}
 use mathlib.Core.List.{List}
 use mathlib.Core.Path.{_≡_, refl}
-use Prim.Native.Nat.{ℕ, _-_}
+use Prim.Native.Nat.{ℕ}
 use borrow.Author.Tests.{not-true, not-false}
 use Rattle.groups.specs.Groups.{timeOf, goodTime}
 use Rattle.groups.specs.declared.Time.{Time}
@@ -21,13 +21,13 @@ use Rattle.reader_sections.proofs.observation.read_observed.Statement.{
 use Rattle.reader_sections.proofs.observation.read_observed.Tie as tie
 
 module _ {t : List ℕ} {from a : Step} {found : Bool} {word : ℕ} (at : MayTake 0x014154 t from found a) where
-  without-time : found ≡ false → ObservedSays word t from a (untimed word)
+  untimed-says : found ≡ false → ObservedSays word t from a (untimed word)
   unfolding step
-  without-time n = record { says = λ p. at .without n _ fixed-at (atObserved p word) _ (λ z i. rw i) refl; stands = at .stands }
+  untimed-says n = record { says = λ p. at .without n _ fixed-at (atObserved p word) _ (λ z i. rw i) refl; stands = at .stands }
 
-  with-time : {to : Step} {u : Time} → found ≡ true → Takes timeOf goodTime 8 t a to u → ObservedSays word t from to (timedAt word u)
+  timed-says : {to : Step} {u : Time} → found ≡ true → Takes timeOf goodTime 8 t a to u → ObservedSays word t from to (timedAt word u)
   unfolding step
-  with-time y time = record {
+  timed-says y time = record {
     says = λ p. then (at .with y _ fixed-at (atObserved p word) (atObservedTime p word) (λ i. rw i))
         (time .says (atObservedTime p word) (λ u. atPlace (inReport (record { before = p; observation = timedAt word u })) atLocation) (λ z. refl) refl);
     stands = time .stands;
@@ -37,13 +37,13 @@ perhaps-at-requires : tie.Need-perhaps-at-requires
 perhaps-at-requires c κs = search needs
 
 returns : tie.Need-returns
-returns c = search (without-time, not-true)
+returns c = search (untimed-says, not-true)
 
 time-at-requires : tie.Need-time-at-requires
 time-at-requires c κs = search needs
 
 returns-2 : tie.Need-returns-2
-returns-2 c = search (with-time, not-false)
+returns-2 c = search (timed-says, not-false)
 
 pub read-observed-spec : {M : Type 1} → statement M
 read-observed-spec = tie.close (tie.spec perhaps-at-requires returns time-at-requires returns-2)

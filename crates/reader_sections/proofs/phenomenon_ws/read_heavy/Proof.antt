@@ -2,7 +2,7 @@
 use borrow.Author.Needs.{needs}
 use mathlib.Core.List.{List}
 use mathlib.Core.Path.{_≡_, refl}
-use Prim.Native.Nat.{ℕ, _-_}
+use Prim.Native.Nat.{ℕ}
 use lib.Dec.{eqb}
 use Rattle.grammar.specs.States.State.{atHeavy}
 use Rattle.grammar.specs.Steps.{step}
@@ -16,13 +16,13 @@ use Rattle.reader_sections.proofs.phenomenon_ws.read_heavy.Statement.{s
 use Rattle.reader_sections.proofs.phenomenon_ws.read_heavy.Tie as tie
 
 module _ {t : List ℕ} {from to : Step} {code : ℕ} (f : Stands t from) (e : code ≡ codeAt t from) where
-  dust : code ≡ 0x014453 → Before t (from .end) to → WeatherFrom atHeavy t from to 13
+  hvy-ds : code ≡ 0x014453 → Before t (from .end) to → WeatherFrom atHeavy t from to 13
   unfolding step
-  dust y p = record { says = λ o. takes-code f e fixed-ds y p (atHeavy o) _ (λ z i. rw i); stands = p .stands }
+  hvy-ds y p = record { says = λ o. takes-code f e fixed-ds y p (atHeavy o) _ (λ z i. rw i); stands = p .stands }
 
-  sand : (code ≡ 0x014453 → ⊥) → Judged t from (eqb code 0x015353) 7 to → WeatherFrom atHeavy t from to 14
+  hvy-ss : (code ≡ 0x014453 → ⊥) → Judged t from (eqb code 0x015353) 7 to → WeatherFrom atHeavy t from to 14
   unfolding step
-  sand n j = record { says = λ o. takes-fixed f e j .says _ fixed-ss (atHeavy o) _ (λ z. rw (code-no f e z fixed-ds n)) refl; stands = j .stands }
+  hvy-ss n j = record { says = λ o. takes-fixed f e j .says _ fixed-ss (atHeavy o) _ (λ z. rw (code-no f e z fixed-ds n)) refl; stands = j .stands }
 
 code-of-requires : tie.Need-code-of-requires
 code-of-requires c κs = search needs
@@ -31,13 +31,13 @@ step-at-requires : tie.Need-step-at-requires
 step-at-requires c κs = search needs
 
 returns : tie.Need-returns
-returns c = search dust
+returns c = search hvy-ds
 
 judged-requires : tie.Need-judged-requires
 judged-requires c κs = search needs
 
 returns-2 : tie.Need-returns-2
-returns-2 c = search sand
+returns-2 c = search hvy-ss
 
 pub read-heavy-spec : {M : Type 1} → statement M
 read-heavy-spec =

@@ -3,7 +3,7 @@ use borrow.Author.Needs.{needs}
 use mathlib.Core.Bool.{Bool, true, false}
 use mathlib.Core.List.{List}
 use mathlib.Core.Path.{_≡_, refl}
-use Prim.Native.Nat.{ℕ, _-_}
+use Prim.Native.Nat.{ℕ}
 use native.Mathlib.Omega.{arith}
 use lib.Dec.{eqb}
 use Rattle.grammar.specs.States.State.{atSevere, atIce}
@@ -19,14 +19,14 @@ use Rattle.reader_sections.proofs.phenomenon_ws.read_severe.Statement.{
 use Rattle.reader_sections.proofs.phenomenon_ws.read_severe.Tie as tie
 
 module _ {t : List ℕ} {from to : Step} {code : ℕ} (f : Stands t from) (e : code ≡ codeAt t from) where
-  turbulence : code ≡ 0x0154555242 → Before t (from .end) to → WeatherFrom atSevere t from to 9
+  sev-turb : code ≡ 0x0154555242 → Before t (from .end) to → WeatherFrom atSevere t from to 9
   unfolding step
-  turbulence y p = record { says = λ o. takes-code f e fixed-turb y p (atSevere o) _ (λ z i. rw i); stands = p .stands }
+  sev-turb y p = record { says = λ o. takes-code f e fixed-turb y p (atSevere o) _ (λ z i. rw i); stands = p .stands }
 
   module _ (no-turb : code ≡ 0x0154555242 → ⊥) where
-    wave : code ≡ 0x014d5457 → Before t (from .end) to → WeatherFrom atSevere t from to 12
+    sev-mtw : code ≡ 0x014d5457 → Before t (from .end) to → WeatherFrom atSevere t from to 12
     unfolding step
-    wave y p = record {
+    sev-mtw y p = record {
       says = λ o. takes-code f e fixed-mtw y p (atSevere o) _ (λ z i. rw (code-no f e z fixed-turb no-turb, code-no f e z fixed-ice (λ y′. omega arith), i));
       stands = p .stands;
     }
@@ -36,13 +36,13 @@ module _ {t : List ℕ} {from to : Step} {code : ℕ} (f : Stands t from) (e : c
       unfolding step
       on-ice o = takes-fixed f e j .says _ fixed-ice (atSevere o) (atIce o) (λ z. rw (code-no f e z fixed-turb no-turb, code-no f e z fixed-mtw no-mtw)) refl
 
-      freezing : found ≡ true → WeatherFrom atSevere t from to 11
+      sev-ice-fzra : found ≡ true → WeatherFrom atSevere t from to 11
       unfolding step
-      freezing y = record { says = λ o. then (on-ice o) (rain .with y _ fixed-freezing-rain (atIce o) _ (λ i. rw i)); stands = rain .stands }
+      sev-ice-fzra y = record { says = λ o. then (on-ice o) (rain .with y _ fixed-freezing-rain (atIce o) _ (λ i. rw i)); stands = rain .stands }
 
-      icing : found ≡ false → WeatherFrom atSevere t from to 10
+      sev-ice : found ≡ false → WeatherFrom atSevere t from to 10
       unfolding step
-      icing n = record { says = λ o. then (on-ice o) (rain .without n _ fixed-freezing-rain (atIce o) _ (λ z i. rw i) refl); stands = rain .stands }
+      sev-ice n = record { says = λ o. then (on-ice o) (rain .without n _ fixed-freezing-rain (atIce o) _ (λ z i. rw i) refl); stands = rain .stands }
 
 code-of-requires : tie.Need-code-of-requires
 code-of-requires c κs = search needs
@@ -51,13 +51,13 @@ step-at-requires : tie.Need-step-at-requires
 step-at-requires c κs = search needs
 
 returns : tie.Need-returns
-returns c = search turbulence
+returns c = search sev-turb
 
 step-at-requires-2 : tie.Need-step-at-requires-2
 step-at-requires-2 c κs = search needs
 
 returns-2 : tie.Need-returns-2
-returns-2 c = search wave
+returns-2 c = search sev-mtw
 
 judged-requires : tie.Need-judged-requires
 judged-requires c κs = search needs
@@ -66,10 +66,10 @@ perhaps-at-requires : tie.Need-perhaps-at-requires
 perhaps-at-requires c κs = search needs
 
 returns-3 : tie.Need-returns-3
-returns-3 c = search freezing
+returns-3 c = search sev-ice-fzra
 
 returns-4 : tie.Need-returns-4
-returns-4 c = search icing
+returns-4 c = search sev-ice
 
 pub read-severe-spec : {M : Type 1} → statement M
 read-severe-spec =

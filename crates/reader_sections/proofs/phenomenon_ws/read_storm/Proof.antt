@@ -16,13 +16,13 @@ use Rattle.reader_sections.proofs.phenomenon_ws.read_storm.Statement.{s
 use Rattle.reader_sections.proofs.phenomenon_ws.read_storm.Tie as tie
 
 module _ {t : List ℕ} {from to : Step} {storm code : ℕ} (f : Stands t from) (e : code ≡ codeAt t from) where
-  thunder : code ≡ 0x015453 → Before t (from .end) to → WeatherFrom (λ o. atStorm o storm) t from to (2 * storm - 1)
+  storm-ts : code ≡ 0x015453 → Before t (from .end) to → WeatherFrom (λ o. atStorm o storm) t from to (2 * storm - 1)
   unfolding step
-  thunder y p = record { says = λ o. takes-code f e fixed-ts y p (atStorm o storm) _ (λ z i. rw i); stands = p .stands }
+  storm-ts y p = record { says = λ o. takes-code f e fixed-ts y p (atStorm o storm) _ (λ z i. rw i); stands = p .stands }
 
-  hail : (code ≡ 0x015453 → ⊥) → Judged t from (eqb code 0x0154534752) 7 to → WeatherFrom (λ o. atStorm o storm) t from to (2 * storm)
+  storm-tsgr : (code ≡ 0x015453 → ⊥) → Judged t from (eqb code 0x0154534752) 7 to → WeatherFrom (λ o. atStorm o storm) t from to (2 * storm)
   unfolding step
-  hail n j = record { says = λ o. takes-fixed f e j .says _ fixed-tsgr (atStorm o storm) _ (λ z. rw (code-no f e z fixed-ts n)) refl; stands = j .stands }
+  storm-tsgr n j = record { says = λ o. takes-fixed f e j .says _ fixed-tsgr (atStorm o storm) _ (λ z. rw (code-no f e z fixed-ts n)) refl; stands = j .stands }
 
 code-of-requires : tie.Need-code-of-requires
 code-of-requires c κs = search needs
@@ -37,7 +37,7 @@ sub-t9 : tie.Need-sub-t9
 sub-t9 c = search needs
 
 returns : tie.Need-returns
-returns c = search thunder
+returns c = search storm-ts
 
 judged-requires : tie.Need-judged-requires
 judged-requires c κs = search needs
@@ -46,7 +46,7 @@ mul-t10 : tie.Need-mul-t10
 mul-t10 c = search needs
 
 returns-2 : tie.Need-returns-2
-returns-2 c = search hail
+returns-2 c = search storm-tsgr
 
 pub read-storm-spec : {M : Type 1} → statement M
 read-storm-spec =

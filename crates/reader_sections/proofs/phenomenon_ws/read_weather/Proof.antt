@@ -1,10 +1,9 @@
 -- `read_weather` meets its contract: a storm is told by its place in the table of codes, and the rest is a choice by codes. Assumes nothing.
 use borrow.Author.Needs.{needs}
-use mathlib.Core.List.{List}
+use mathlib.Core.List.{List, [], _∷_, map}
 use mathlib.Core.Path.{_≡_, refl, _∙_}
-use Prim.Native.Nat.{ℕ, _+_, _-_, _≤_, _<_}
+use Prim.Native.Nat.{ℕ, _+_, _≤_, _<_}
 use lib.Dec.{eqb}
-use mathlib.Core.List.{[], _∷_, map}
 use Rattle.lists.specs.Base.{worthAfter}
 use Rattle.lists.specs.Lists.{allOf, indexOf}
 use Rattle.figures.specs.Codes.{codeOf}
@@ -28,27 +27,27 @@ unfolding codeOf worthAfter allOf stormWords
 the-storms = refl
 
 module _ {t : List ℕ} {from a to : Step} {code n phenomenon : ℕ} (f : Stands t from) (e : code ≡ codeAt t from) (found : n ≡ indexOf (eqb code) storms) where
-  a-storm : n < 4 → Before t (from .end) a → WeatherFrom (λ o. atStorm o (n + 1)) t a to phenomenon → WeatherSays t from to phenomenon
-  a-storm l p rest = record { says = λ o j. then (goes-storm f e found the-storms l p o j) (rest .says o); stands = rest .stands }
+  storm-first : n < 4 → Before t (from .end) a → WeatherFrom (λ o. atStorm o (n + 1)) t a to phenomenon → WeatherSays t from to phenomenon
+  storm-first l p rest = record { says = λ o j. then (goes-storm f e found the-storms l p o j) (rest .says o); stands = rest .stands }
 
   module _ (none : 4 ≤ n) where
-    severe : code ≡ 0x01534556 → Before t (from .end) a → WeatherFrom atSevere t a to phenomenon → WeatherSays t from to phenomenon
-    severe y p rest = record {
+    sev-first : code ≡ 0x01534556 → Before t (from .end) a → WeatherFrom atSevere t a to phenomenon → WeatherSays t from to phenomenon
+    sev-first y p rest = record {
       says = λ o j. then (takes-code f e fixed-sev y p (atForm o) (atSevere o) (λ z i. j z ∙ rw (no-storm f e found the-storms z none, i))) (rest .says o);
       stands = rest .stands;
     }
 
     module _ (no-sev : code ≡ 0x01534556 → ⊥) where
-      heavy : code ≡ 0x01485659 → Before t (from .end) a → WeatherFrom atHeavy t a to phenomenon → WeatherSays t from to phenomenon
-      heavy y p rest = record {
+      hvy-first : code ≡ 0x01485659 → Before t (from .end) a → WeatherFrom atHeavy t a to phenomenon → WeatherSays t from to phenomenon
+      hvy-first y p rest = record {
         says = λ o j. then
             (takes-code f e fixed-hvy y p (atForm o) (atHeavy o) (λ z i. j z ∙ rw (no-storm f e found the-storms z none, code-no f e z fixed-sev no-sev, i)))
             (rest .says o);
         stands = rest .stands;
       }
 
-      radioactive : (code ≡ 0x01485659 → ⊥) → Judged t from (eqb code 0x0152444f414354) 7 a → WeatherFrom atRadioactive t a to phenomenon → WeatherSays t from to phenomenon
-      radioactive no-hvy j rest = record {
+      rdoact-first : (code ≡ 0x01485659 → ⊥) → Judged t from (eqb code 0x0152444f414354) 7 a → WeatherFrom atRadioactive t a to phenomenon → WeatherSays t from to phenomenon
+      rdoact-first no-hvy j rest = record {
         says = λ o k. then
             (takes-fixed f e j .says _ fixed-rdoact (atForm o) (atRadioactive o)
             (λ z. k z ∙ rw (no-storm f e found the-storms z none, code-no f e z fixed-sev no-sev, code-no f e z fixed-hvy no-hvy)) refl)
@@ -78,7 +77,7 @@ read-storm-requires : tie.Need-read-storm-requires
 read-storm-requires c κs = search needs
 
 returns : tie.Need-returns
-returns c = search a-storm
+returns c = search storm-first
 
 step-at-requires-2 : tie.Need-step-at-requires-2
 step-at-requires-2 c κs = search needs
@@ -87,7 +86,7 @@ read-severe-requires : tie.Need-read-severe-requires
 read-severe-requires c κs = search needs
 
 returns-2 : tie.Need-returns-2
-returns-2 c = search severe
+returns-2 c = search sev-first
 
 step-at-requires-3 : tie.Need-step-at-requires-3
 step-at-requires-3 c κs = search needs
@@ -96,7 +95,7 @@ read-heavy-requires : tie.Need-read-heavy-requires
 read-heavy-requires c κs = search needs
 
 returns-3 : tie.Need-returns-3
-returns-3 c = search heavy
+returns-3 c = search hvy-first
 
 judged-requires : tie.Need-judged-requires
 judged-requires c κs = search needs
@@ -105,7 +104,7 @@ read-radioactive-requires : tie.Need-read-radioactive-requires
 read-radioactive-requires c κs = search needs
 
 returns-4 : tie.Need-returns-4
-returns-4 c = search radioactive
+returns-4 c = search rdoact-first
 
 pub read-weather-spec : {M : Type 1} → statement M
 read-weather-spec =

@@ -3,7 +3,7 @@ use borrow.Author.Needs.{needs}
 use mathlib.Core.Bool.{Bool, true, false}
 use mathlib.Core.List.{List}
 use mathlib.Core.Path.{_≡_, refl}
-use Prim.Native.Nat.{ℕ, _-_}
+use Prim.Native.Nat.{ℕ}
 use Rattle.lists.specs.Text.{bytes}
 use Rattle.message.specs.Reports.{noVolcano}
 use Rattle.message.specs.declared.Volcano.{Volcano}
@@ -18,16 +18,16 @@ use Rattle.reader_sections.proofs.phenomenon_wv.read_ash.Statement.{sta
 use Rattle.reader_sections.proofs.phenomenon_wv.read_ash.Tie as tie
 
 module _ {t : List ℕ} {from a b : Step} {found : Bool} (va : TakesFixed 0x015641 7 t from a) (cld : MayTake 0x01434c44 t a found b) where
-  cloud : found ≡ true → AshSays t from b 16 noVolcano
+  va-cld : found ≡ true → AshSays t from b 16 noVolcano
   unfolding step
-  cloud y = record {
+  va-cld y = record {
     says = λ o j. then (va .says _ fixed-va (atForm o) (atAsh o) j refl) (cld .with y _ fixed-cld (atAsh o) _ (λ i. rw i));
     stands = cld .stands;
   }
 
-  erupts : {c to : Step} {n : ℕ} {v : Volcano} → found ≡ false → TakesLong (bytes "ERUPTION") 7 t b c → EruptionSays t c to n v → AshSays t from to n v
+  va-eruption : {c to : Step} {n : ℕ} {v : Volcano} → found ≡ false → TakesLong (bytes "ERUPTION") 7 t b c → EruptionSays t c to n v → AshSays t from to n v
   unfolding step
-  erupts n eruption rest = record {
+  va-eruption n eruption rest = record {
     says = λ o j. then (va .says _ fixed-va (atForm o) (atAsh o) j refl)
         (then (cld .without n _ fixed-cld (atAsh o) (atAsh o) (λ z i. refl) refl)
         (then (eruption .says (atAsh o) (atEruption o) (λ z. rw (cld .other n _ fixed-cld z)) refl)
@@ -42,7 +42,7 @@ perhaps-at-requires : tie.Need-perhaps-at-requires
 perhaps-at-requires c κs = search needs
 
 returns : tie.Need-returns
-returns c = search cloud
+returns c = search va-cld
 
 slice-aggregate-long-at : tie.Need-slice-aggregate-long-at
 slice-aggregate-long-at c = search needs
@@ -54,7 +54,7 @@ read-eruption-requires : tie.Need-read-eruption-requires
 read-eruption-requires c κs = search needs
 
 returns-2 : tie.Need-returns-2
-returns-2 c = search erupts
+returns-2 c = search va-eruption
 
 pub read-ash-spec : {M : Type 1} → statement M
 read-ash-spec =

@@ -3,7 +3,7 @@ use borrow.Author.Needs.{needs}
 use mathlib.Core.Bool.{Bool, true, false}
 use mathlib.Core.List.{List}
 use mathlib.Core.Path.{_≡_, refl}
-use Prim.Native.Nat.{ℕ, _-_}
+use Prim.Native.Nat.{ℕ}
 use borrow.Author.Tests.{not-true, not-false}
 use Rattle.message.specs.Names.{noName}
 use Rattle.message.specs.declared.Name.{Name}
@@ -20,17 +20,17 @@ use Rattle.reader_sections.proofs.phenomenon_wv.read_mountain.Statement
 use Rattle.reader_sections.proofs.phenomenon_wv.read_mountain.Tie as tie
 
 module _ {t : List ℕ} {from a to : Step} {found : Bool} (mt : MayTake 0x014d54 t from found a) where
-  nameless : found ≡ false → TakesFixed 0x0150534e 7 t a to → MountainSays t from to noName
+  psn-alone : found ≡ false → TakesFixed 0x0150534e 7 t a to → MountainSays t from to noName
   unfolding step
-  nameless n psn = record {
+  psn-alone n psn = record {
     says = λ o. then (mt .without n _ fixed-mt (atEruption o) (atEruption o) (λ z i. refl) refl)
         (psn .says _ fixed-psn (atEruption o) (atPosition o noName) (λ z. rw (mt .other n _ fixed-mt z)) refl);
     stands = psn .stands;
   }
 
-  named : {b : Step} {name : Name} → found ≡ true → NameSays true 30 7 t a b name → TakesFixed 0x0150534e 7 t b to → MountainSays t from to name
+  mt-name-psn : {b : Step} {name : Name} → found ≡ true → NameSays true 30 7 t a b name → TakesFixed 0x0150534e 7 t b to → MountainSays t from to name
   unfolding step
-  named y whole psn = record {
+  mt-name-psn y whole psn = record {
     says = λ o. then (mt .with y _ fixed-mt (atEruption o) (atMountain o) (λ i. rw i))
         (then (whole .says (atMountain o) (atMoreMountain o) _ (mountain-takes o))
         (psn .says _ fixed-psn (atMoreMountain o _) _ (λ z. name-closed (mountainClosed o) whole z (mountain-takes o)) refl));
@@ -44,7 +44,7 @@ fixed-at-requires : tie.Need-fixed-at-requires
 fixed-at-requires c κs = search needs
 
 returns : tie.Need-returns
-returns c = search (nameless, not-true)
+returns c = search (psn-alone, not-true)
 
 read-name-requires : tie.Need-read-name-requires
 read-name-requires c κs = search needs
@@ -53,7 +53,7 @@ fixed-at-requires-2 : tie.Need-fixed-at-requires-2
 fixed-at-requires-2 c κs = search needs
 
 returns-2 : tie.Need-returns-2
-returns-2 c = search (named, not-false)
+returns-2 c = search (mt-name-psn, not-false)
 
 pub read-mountain-spec : {M : Type 1} → statement M
 read-mountain-spec =
