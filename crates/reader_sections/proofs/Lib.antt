@@ -6,6 +6,7 @@ pub mod Leads
 pub mod Sides
 pub mod FirstWords
 pub mod Determined
+pub mod FormLaws
 pub mod Storms
 pub mod NameBytes
 pub mod NameText

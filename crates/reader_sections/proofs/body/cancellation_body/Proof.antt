@@ -1,8 +1,23 @@
 -- `cancellation_body` meets its contract: what is cancelled, and the `=`. Assumes nothing.
 use borrow.Author.Needs.{needs}
+use mathlib.Core.List.{List}
+use Prim.Native.Nat.{ℕ}
+use Rattle.reader_sections.specs.Forms.{CancellationSays}
+use Rattle.message.specs.Reports.{noReport}
+use Rattle.message.specs.declared.FirstLine.{FirstLine}
+use Rattle.headings.specs.declared.Sequence.{Sequence}
+use Rattle.groups.specs.declared.Group.{Group}
+use Rattle.message.specs.declared.Form.the-variants.{Cancellation}
+use Rattle.reader_sections.specs.Bodies.{CancellationBodySays}
+use Rattle.reader_sections.specs.Leading.{Closes}
+use Rattle.reader_sections.specs.declared.steps.Step.{Step}
 use Rattle.reader_sections.proofs.Leads.{at-last}
 use Rattle.reader_sections.proofs.body.cancellation_body.Statement.{statement}
 use Rattle.reader_sections.proofs.body.cancellation_body.Tie as tie
+
+ended : {t : List ℕ} {from a to : Step} {line : FirstLine} {s : Sequence} {since : Group} → CancellationSays line t from a s since → Closes a to
+    → CancellationBodySays line t from to (Cancellation s since) noReport
+ended cancelled end = record { says = λ o l. at-last (cancelled .says o l) (end .says _ _ (cancelled .stands)) }
 
 read-cancellation-requires : tie.Need-read-cancellation-requires
 read-cancellation-requires c κs = search needs
@@ -10,12 +25,8 @@ read-cancellation-requires c κs = search needs
 concluding-requires : tie.Need-concluding-requires
 concluding-requires c κs = search needs
 
-no-report-requires : tie.Need-no-report-requires
-no-report-requires c κs = search needs
-
 returns : tie.Need-returns
-returns c = record { says = λ o l. rw (c .no-report .ensures) (at-last (c .before .before .before .before .read-cancellation .ensures .says o l) (c .before .concluding .ensures .says _ _ (search needs))) }
+returns c = search ended
 
 pub cancellation-body-spec : {M : Type 1} → statement M
-cancellation-body-spec =
-    tie.close (tie.spec read-cancellation-requires concluding-requires no-report-requires returns)
+cancellation-body-spec = tie.close (tie.spec read-cancellation-requires concluding-requires returns)

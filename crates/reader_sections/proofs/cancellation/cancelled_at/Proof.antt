@@ -24,7 +24,7 @@ judged-requires : tie.Need-judged-requires
 judged-requires c κs = search needs
 
 returns : tie.Need-returns
-returns c = takes (c .before .before .before .before .before .pre) (c .judged .ensures) (cancelled-none _ _) (c .before .before .period-word .ensures) (c .before .cancels .ensures)
+returns c = search (takes, cancelled-none)
 
 pub cancelled-at-spec : {M : Type 1} → statement M
 cancelled-at-spec =

@@ -21,7 +21,7 @@ both-requires-2 c κs = search needs
 
 returns : tie.Need-returns
 unfolding cancels
-returns c = rw (c .both2 .ensures, c .before .both .ensures, c .before .before .good-period .ensures, c .before .before .before .names-itself .ensures, c .before .before .before .before .same-group .ensures)
+returns c = cc
 
 pub cancels-spec : {M : Type 1} → statement M
 cancels-spec =

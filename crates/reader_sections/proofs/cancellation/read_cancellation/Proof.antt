@@ -1,13 +1,33 @@
 -- `read_cancellation` meets its contract: SIGMET, a sequence and a period that cancels, one after another. Assumes nothing.
 use borrow.Author.Needs.{needs}
+use mathlib.Core.List.{List}
 use mathlib.Core.Path.{refl}
+use Prim.Native.Nat.{ℕ}
+use Rattle.groups.specs.Groups.{periodOf}
+use Rattle.groups.specs.declared.Period.{Period}
+use Rattle.headings.specs.Sequences.{sequenceOf, goodSequence}
+use Rattle.headings.specs.declared.Sequence.{Sequence}
+use Rattle.message.specs.declared.FirstLine.{FirstLine}
 use Rattle.grammar.specs.Records.{cancellationOf}
 use Rattle.grammar.specs.States.State.{atCancelSigmet, atCancelSequence, atCancelPeriod, atEnd}
-use Rattle.grammar.specs.Steps.{step}
-use Rattle.reader_sections.proofs.Leads.{then}
+use Rattle.grammar.specs.Steps.{step, cancels}
 use Rattle.vocabulary.proofs.FixedWords.{fixed-sigmet}
+use Rattle.reader_sections.specs.Forms.{CancellationSays}
+use Rattle.reader_sections.specs.Leading.{Takes, TakesFixed}
+use Rattle.reader_sections.specs.declared.steps.Step.{Step}
+use Rattle.reader_sections.proofs.Leads.{then}
 use Rattle.reader_sections.proofs.cancellation.read_cancellation.Statement.{statement}
 use Rattle.reader_sections.proofs.cancellation.read_cancellation.Tie as tie
+
+cancelled : {t : List ℕ} {from a b to : Step} {line : FirstLine} {s : Sequence} {p : Period} → TakesFixed 0x015349474d4554 7 t from a
+    → Takes sequenceOf goodSequence 7 t a b s → Takes periodOf (cancels line s) 7 t b to p → CancellationSays line t from to s (p .from)
+unfolding step
+cancelled {s = s} sigmet sequence period = record {
+  says = λ o l. then (sigmet .says _ fixed-sigmet (atCancelSigmet o) (atCancelSequence o) (λ z. refl) refl)
+      (then (sequence .says (atCancelSequence o) (atCancelPeriod o) (λ z. refl) refl)
+      (period .says (atCancelPeriod o s) (λ p. atEnd (cancellationOf o s (p .from))) (λ z. rw l) refl));
+  stands = period .stands;
+}
 
 fixed-at-requires : tie.Need-fixed-at-requires
 fixed-at-requires c κs = search needs
@@ -19,15 +39,7 @@ cancelled-at-requires : tie.Need-cancelled-at-requires
 cancelled-at-requires c κs = search needs
 
 returns : tie.Need-returns
-unfolding step
-returns c =
-    let s = c .before .before .before .before .before .sequence-at in
-    record {
-      says = λ o l. then (c .before .before .before .before .before .before .fixed-at .ensures .says _ fixed-sigmet (atCancelSigmet o) (atCancelSequence o) (λ z. refl) refl)
-          (then (s .ensures .says (atCancelSequence o) (atCancelPeriod o) (λ z. refl) refl)
-          (c .before .before .before .cancelled-at .ensures .says (atCancelPeriod o (s .result .sequence)) (λ p. atEnd (cancellationOf o (s .result .sequence) (p .from))) (λ z. rw l) refl));
-      stands = search needs;
-    }
+returns c = search cancelled
 
 pub read-cancellation-spec : {M : Type 1} → statement M
 read-cancellation-spec =

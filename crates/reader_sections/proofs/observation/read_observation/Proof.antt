@@ -1,12 +1,32 @@
 -- `read_observation` meets its contract: a choice of two words by their codes. Assumes nothing.
 use borrow.Author.Needs.{needs}
-use mathlib.Core.Path.{refl}
+use mathlib.Core.List.{List}
+use mathlib.Core.Path.{_≡_, refl}
+use Prim.Native.Nat.{ℕ}
+use lib.Dec.{eqb}
+use Rattle.message.specs.declared.Observation.{Observation}
 use Rattle.grammar.specs.States.State.{atObservation, atObserved}
 use Rattle.grammar.specs.Steps.{step}
-use Rattle.reader_sections.proofs.Leads.{then, goes-code, code-yes, code-no, takes-fixed}
 use Rattle.vocabulary.proofs.FixedWords.{fixed-obs, fixed-fcst}
+use Rattle.reader_sections.specs.Reports.{ObservedSays, ObservationSays}
+use Rattle.reader_sections.specs.Leading.{Stands, Before, Judged}
+use Rattle.reader_sections.specs.declared.steps.Step.{Step}
+use Rattle.reader_sections.proofs.FormLaws.{codeAt, takes-code}
+use Rattle.reader_sections.proofs.Leads.{then, code-no, takes-fixed}
 use Rattle.reader_sections.proofs.observation.read_observation.Statement.{statement}
 use Rattle.reader_sections.proofs.observation.read_observation.Tie as tie
+
+module _ {t : List ℕ} {from a to : Step} {code : ℕ} {o : Observation} (f : Stands t from) (e : code ≡ codeAt t from) where
+  obs : code ≡ 0x014f4253 → Before t (from .end) a → ObservedSays 1 t a to o → ObservationSays t from to o
+  unfolding step
+  obs y p rest = record { says = λ q. then (takes-code f e fixed-obs y p (atObservation q) (atObserved q 1) (λ z i. rw i)) (rest .says q); stands = rest .stands }
+
+  fcst : (code ≡ 0x014f4253 → ⊥) → Judged t from (eqb code 0x0146435354) 8 a → ObservedSays 2 t a to o → ObservationSays t from to o
+  unfolding step
+  fcst n j rest = record {
+    says = λ q. then (takes-fixed f e j .says _ fixed-fcst (atObservation q) (atObserved q 2) (λ z. rw (code-no f e z fixed-obs n)) refl) (rest .says q);
+    stands = rest .stands;
+  }
 
 code-of-requires : tie.Need-code-of-requires
 code-of-requires c κs = search needs
@@ -18,15 +38,7 @@ read-observed-requires : tie.Need-read-observed-requires
 read-observed-requires c κs = search needs
 
 returns : tie.Need-returns
-unfolding step
-returns c =
-    let f = c .before .before .before .before .before .pre in
-    let e = c .before .before .before .code-of .ensures in
-    record {
-      says = λ p. then (goes-code f e fixed-obs (c .before .before .if1 .taken) (c .before .step-at .ensures) (atObservation p) (atObserved p 1) (rw (code-yes f e fixed-obs (c .before .before .if1 .taken))))
-          (c .read-observed .ensures .says p);
-      stands = search needs;
-    }
+returns c = search obs
 
 judged-requires : tie.Need-judged-requires
 judged-requires c κs = search needs
@@ -35,15 +47,7 @@ read-observed-requires-2 : tie.Need-read-observed-requires-2
 read-observed-requires-2 c κs = search needs
 
 returns-2 : tie.Need-returns-2
-unfolding step
-returns-2 c =
-    let f = c .before .before .before .before .before .pre in
-    let e = c .before .before .before .code-of .ensures in
-    record {
-      says = λ p. then (takes-fixed f e (c .before .judged .ensures) .says _ fixed-fcst (atObservation p) (atObserved p 2) (λ z. rw (code-no f e z fixed-obs (c .before .before .if1 .left))) refl)
-          (c .read-observed2 .ensures .says p);
-      stands = search needs;
-    }
+returns-2 c = search fcst
 
 pub read-observation-spec : {M : Type 1} → statement M
 read-observation-spec =

@@ -1,40 +1,49 @@
--- `read_observed` meets its contract: with `AT` a time, without it the location. Assumes nothing.
+-- `read_observed` meets its contract: with AT a time, without it the location. Assumes nothing.
 use borrow.Author.Needs.{needs}
-use mathlib.Core.Path.{refl}
+use mathlib.Core.Bool.{Bool, true, false}
+use mathlib.Core.List.{List}
+use mathlib.Core.Path.{_≡_, refl}
+use Prim.Native.Nat.{ℕ}
 use borrow.Author.Tests.{not-true, not-false}
-use Rattle.grammar.specs.Records.{timedAt}
+use Rattle.groups.specs.Groups.{timeOf, goodTime}
+use Rattle.groups.specs.declared.Time.{Time}
+use Rattle.grammar.specs.Records.{untimed, timedAt}
 use Rattle.grammar.specs.States.Placing.{atLocation}
 use Rattle.grammar.specs.States.Site.{inReport}
 use Rattle.grammar.specs.States.State.{atObserved, atObservedTime, atPlace}
 use Rattle.grammar.specs.Steps.{step}
-use Rattle.reader_sections.proofs.Leads.{then}
 use Rattle.vocabulary.proofs.FixedWords.{fixed-at}
+use Rattle.reader_sections.specs.Reports.{ObservedSays}
+use Rattle.reader_sections.specs.Leading.{Takes, MayTake}
+use Rattle.reader_sections.specs.declared.steps.Step.{Step}
+use Rattle.reader_sections.proofs.Leads.{then}
 use Rattle.reader_sections.proofs.observation.read_observed.Statement.{statement}
 use Rattle.reader_sections.proofs.observation.read_observed.Tie as tie
+
+module _ {t : List ℕ} {from a : Step} {found : Bool} {word : ℕ} (at : MayTake 0x014154 t from found a) where
+  untimed-says : found ≡ false → ObservedSays word t from a (untimed word)
+  unfolding step
+  untimed-says n = record { says = λ p. at .without n _ fixed-at (atObserved p word) _ (λ z i. rw i) refl; stands = at .stands }
+
+  timed-says : {to : Step} {u : Time} → found ≡ true → Takes timeOf goodTime 8 t a to u → ObservedSays word t from to (timedAt word u)
+  unfolding step
+  timed-says y time = record {
+    says = λ p. then (at .with y _ fixed-at (atObserved p word) (atObservedTime p word) (λ i. rw i))
+        (time .says (atObservedTime p word) (λ u. atPlace (inReport (record { before = p; observation = timedAt word u })) atLocation) (λ z. refl) refl);
+    stands = time .stands;
+  }
 
 perhaps-at-requires : tie.Need-perhaps-at-requires
 perhaps-at-requires c κs = search needs
 
 returns : tie.Need-returns
-unfolding step
-returns c =
-    record {
-      says = λ p. c .before .before .before .perhaps-at .ensures .without (search (not-true, needs)) _ fixed-at (atObserved p _) _ (λ z n. rw n) refl;
-      stands = search needs;
-    }
+returns c = search (untimed-says, not-true)
 
 time-at-requires : tie.Need-time-at-requires
 time-at-requires c κs = search needs
 
 returns-2 : tie.Need-returns-2
-unfolding step
-returns-2 c =
-    let word = c .before .before .before .before .before .before .before .args .word in
-    record {
-      says = λ p. then (c .before .before .before .before .before .perhaps-at .ensures .with (search (not-false, needs)) _ fixed-at (atObserved p word) (atObservedTime p word) (λ n. rw n))
-          (c .before .before .time-at .ensures .says (atObservedTime p word) (λ u. atPlace (inReport (record { before = p; observation = timedAt word u })) atLocation) (λ z. refl) refl);
-      stands = search needs;
-    }
+returns-2 c = search (timed-says, not-false)
 
 pub read-observed-spec : {M : Type 1} → statement M
 read-observed-spec = tie.close (tie.spec perhaps-at-requires returns time-at-requires returns-2)

@@ -1,12 +1,28 @@
 -- `read_heavy` meets its contract: a choice of two words by their codes. Assumes nothing.
 use borrow.Author.Needs.{needs}
-use mathlib.Core.Path.{refl}
+use mathlib.Core.List.{List}
+use mathlib.Core.Path.{_≡_, refl}
+use Prim.Native.Nat.{ℕ}
+use lib.Dec.{eqb}
 use Rattle.grammar.specs.States.State.{atHeavy}
 use Rattle.grammar.specs.Steps.{step}
-use Rattle.reader_sections.proofs.Leads.{goes-code, code-yes, code-no, takes-fixed}
 use Rattle.vocabulary.proofs.FixedWords.{fixed-ds, fixed-ss}
+use Rattle.reader_sections.specs.Phenomena.{WeatherFrom}
+use Rattle.reader_sections.specs.Leading.{Stands, Before, Judged}
+use Rattle.reader_sections.specs.declared.steps.Step.{Step}
+use Rattle.reader_sections.proofs.FormLaws.{codeAt, takes-code}
+use Rattle.reader_sections.proofs.Leads.{code-no, takes-fixed}
 use Rattle.reader_sections.proofs.phenomenon_ws.read_heavy.Statement.{statement}
 use Rattle.reader_sections.proofs.phenomenon_ws.read_heavy.Tie as tie
+
+module _ {t : List ℕ} {from to : Step} {code : ℕ} (f : Stands t from) (e : code ≡ codeAt t from) where
+  hvy-ds : code ≡ 0x014453 → Before t (from .end) to → WeatherFrom atHeavy t from to 13
+  unfolding step
+  hvy-ds y p = record { says = λ o. takes-code f e fixed-ds y p (atHeavy o) _ (λ z i. rw i); stands = p .stands }
+
+  hvy-ss : (code ≡ 0x014453 → ⊥) → Judged t from (eqb code 0x015353) 7 to → WeatherFrom atHeavy t from to 14
+  unfolding step
+  hvy-ss n j = record { says = λ o. takes-fixed f e j .says _ fixed-ss (atHeavy o) _ (λ z. rw (code-no f e z fixed-ds n)) refl; stands = j .stands }
 
 code-of-requires : tie.Need-code-of-requires
 code-of-requires c κs = search needs
@@ -15,26 +31,14 @@ step-at-requires : tie.Need-step-at-requires
 step-at-requires c κs = search needs
 
 returns : tie.Need-returns
-unfolding step
-returns c =
-    let f = c .before .before .before .before .pre in
-    let e = c .before .before .code-of .ensures in
-    record { says = λ o. goes-code f e fixed-ds (c .before .if1 .taken) (c .step-at .ensures) (atHeavy o) _ (rw (code-yes f e fixed-ds (c .before .if1 .taken))); stands = search needs }
+returns c = search hvy-ds
 
 judged-requires : tie.Need-judged-requires
 judged-requires c κs = search needs
 
 returns-2 : tie.Need-returns-2
-unfolding step
-returns-2 c =
-    let f = c .before .before .before .before .pre in
-    let e = c .before .before .code-of .ensures in
-    record {
-      says = λ o. takes-fixed f e (c .judged .ensures) .says _ fixed-ss (atHeavy o) _ (λ z. rw (code-no f e z fixed-ds (c .before .if1 .left))) refl;
-      stands = search needs;
-    }
+returns-2 c = search hvy-ss
 
 pub read-heavy-spec : {M : Type 1} → statement M
 read-heavy-spec =
-    tie.close
-    (tie.spec code-of-requires step-at-requires returns judged-requires returns-2)
+    tie.close (tie.spec code-of-requires step-at-requires returns judged-requires returns-2)

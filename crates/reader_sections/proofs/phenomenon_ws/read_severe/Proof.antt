@@ -1,13 +1,48 @@
 -- `read_severe` meets its contract: a choice of three words by their codes, and after ICE perhaps another one. Assumes nothing.
 use borrow.Author.Needs.{needs}
-use mathlib.Core.Path.{refl}
+use mathlib.Core.Bool.{Bool, true, false}
+use mathlib.Core.List.{List}
+use mathlib.Core.Path.{_≡_, refl}
+use Prim.Native.Nat.{ℕ}
 use native.Mathlib.Omega.{arith}
+use lib.Dec.{eqb}
 use Rattle.grammar.specs.States.State.{atSevere, atIce}
+use Rattle.grammar.specs.States.{ToArea}
 use Rattle.grammar.specs.Steps.{step}
-use Rattle.reader_sections.proofs.Leads.{then, goes-code, code-going, code-yes, code-no, takes-fixed}
 use Rattle.vocabulary.proofs.FixedWords.{fixed-turb, fixed-mtw, fixed-ice, fixed-freezing-rain}
+use Rattle.reader_sections.specs.Phenomena.{WeatherFrom}
+use Rattle.reader_sections.specs.Leading.{Stands, Before, Judged, MayTake, Leads}
+use Rattle.reader_sections.specs.declared.steps.Step.{Step}
+use Rattle.reader_sections.proofs.FormLaws.{codeAt, takes-code}
+use Rattle.reader_sections.proofs.Leads.{then, code-no, takes-fixed}
 use Rattle.reader_sections.proofs.phenomenon_ws.read_severe.Statement.{statement}
 use Rattle.reader_sections.proofs.phenomenon_ws.read_severe.Tie as tie
+
+module _ {t : List ℕ} {from to : Step} {code : ℕ} (f : Stands t from) (e : code ≡ codeAt t from) where
+  sev-turb : code ≡ 0x0154555242 → Before t (from .end) to → WeatherFrom atSevere t from to 9
+  unfolding step
+  sev-turb y p = record { says = λ o. takes-code f e fixed-turb y p (atSevere o) _ (λ z i. rw i); stands = p .stands }
+
+  module _ (no-turb : code ≡ 0x0154555242 → ⊥) where
+    sev-mtw : code ≡ 0x014d5457 → Before t (from .end) to → WeatherFrom atSevere t from to 12
+    unfolding step
+    sev-mtw y p = record {
+      says = λ o. takes-code f e fixed-mtw y p (atSevere o) _ (λ z i. rw (code-no f e z fixed-turb no-turb, code-no f e z fixed-ice (λ y′. omega arith), i));
+      stands = p .stands;
+    }
+
+    module _ {ice : Step} {found : Bool} (no-mtw : code ≡ 0x014d5457 → ⊥) (j : Judged t from (eqb code 0x01494345) 7 ice) (rain : MayTake 0x0128465a524129 t ice found to) where
+      on-ice : (o : ToArea) → Leads (atSevere o) t from ice (atIce o)
+      unfolding step
+      on-ice o = takes-fixed f e j .says _ fixed-ice (atSevere o) (atIce o) (λ z. rw (code-no f e z fixed-turb no-turb, code-no f e z fixed-mtw no-mtw)) refl
+
+      sev-ice-fzra : found ≡ true → WeatherFrom atSevere t from to 11
+      unfolding step
+      sev-ice-fzra y = record { says = λ o. then (on-ice o) (rain .with y _ fixed-freezing-rain (atIce o) _ (λ i. rw i)); stands = rain .stands }
+
+      sev-ice : found ≡ false → WeatherFrom atSevere t from to 10
+      unfolding step
+      sev-ice n = record { says = λ o. then (on-ice o) (rain .without n _ fixed-freezing-rain (atIce o) _ (λ z i. rw i) refl); stands = rain .stands }
 
 code-of-requires : tie.Need-code-of-requires
 code-of-requires c κs = search needs
@@ -16,26 +51,13 @@ step-at-requires : tie.Need-step-at-requires
 step-at-requires c κs = search needs
 
 returns : tie.Need-returns
-unfolding step
-returns c =
-    let f = c .before .before .before .before .pre in
-    let e = c .before .before .code-of .ensures in
-    record { says = λ o. goes-code f e fixed-turb (c .before .if1 .taken) (c .step-at .ensures) (atSevere o) _ (rw (code-yes f e fixed-turb (c .before .if1 .taken))); stands = search needs }
+returns c = search sev-turb
 
 step-at-requires-2 : tie.Need-step-at-requires-2
 step-at-requires-2 c κs = search needs
 
 returns-2 : tie.Need-returns-2
-unfolding step
-returns-2 c =
-    let f = c .before .before .before .before .before .pre in
-    let e = c .before .before .before .code-of .ensures in
-    let z = code-going f e fixed-mtw (c .before .if2 .taken) in
-    record {
-      says = λ o. goes-code f e fixed-mtw (c .before .if2 .taken) (c .step-at2 .ensures) (atSevere o) _
-          (rw (code-no f e z fixed-turb (c .before .before .if1 .left), code-no f e z fixed-ice (λ i. omega (arith, c .before .if2 .taken)), code-yes f e fixed-mtw (c .before .if2 .taken)));
-      stands = search needs;
-    }
+returns-2 c = search sev-mtw
 
 judged-requires : tie.Need-judged-requires
 judged-requires c κs = search needs
@@ -44,28 +66,10 @@ perhaps-at-requires : tie.Need-perhaps-at-requires
 perhaps-at-requires c κs = search needs
 
 returns-3 : tie.Need-returns-3
-unfolding step
-returns-3 c =
-    let f = c .before .before .before .before .before .before .before .before .pre in
-    let e = c .before .before .before .before .before .before .code-of .ensures in
-    record {
-      says = λ o. then
-          (takes-fixed f e (c .before .before .before .judged .ensures) .says _ fixed-ice (atSevere o) (atIce o) (λ z. rw (code-no f e z fixed-turb (c .before .before .before .before .before .if1 .left), code-no f e z fixed-mtw (c .before .before .before .before .if2 .left))) refl)
-          (c .before .before .perhaps-at .ensures .with (c .if3 .taken) _ fixed-freezing-rain (atIce o) _ (λ y. rw y));
-      stands = search needs;
-    }
+returns-3 c = search sev-ice-fzra
 
 returns-4 : tie.Need-returns-4
-unfolding step
-returns-4 c =
-    let f = c .before .before .before .before .before .before .before .before .pre in
-    let e = c .before .before .before .before .before .before .code-of .ensures in
-    record {
-      says = λ o. then
-          (takes-fixed f e (c .before .before .before .judged .ensures) .says _ fixed-ice (atSevere o) (atIce o) (λ z. rw (code-no f e z fixed-turb (c .before .before .before .before .before .if1 .left), code-no f e z fixed-mtw (c .before .before .before .before .if2 .left))) refl)
-          (c .before .before .perhaps-at .ensures .without (c .if3 .left) _ fixed-freezing-rain (atIce o) _ (λ z n. rw n) refl);
-      stands = search needs;
-    }
+returns-4 c = search sev-ice
 
 pub read-severe-spec : {M : Type 1} → statement M
 read-severe-spec =

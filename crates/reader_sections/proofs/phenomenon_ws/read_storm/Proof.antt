@@ -1,12 +1,28 @@
 -- `read_storm` meets its contract: a choice of two words by their codes. Assumes nothing.
 use borrow.Author.Needs.{needs}
-use mathlib.Core.Path.{refl}
+use mathlib.Core.List.{List}
+use mathlib.Core.Path.{_≡_, refl}
+use Prim.Native.Nat.{ℕ, _*_, _-_}
+use lib.Dec.{eqb}
 use Rattle.grammar.specs.States.State.{atStorm}
 use Rattle.grammar.specs.Steps.{step}
-use Rattle.reader_sections.proofs.Leads.{goes-code, code-yes, code-no, takes-fixed}
 use Rattle.vocabulary.proofs.FixedWords.{fixed-ts, fixed-tsgr}
+use Rattle.reader_sections.specs.Phenomena.{WeatherFrom}
+use Rattle.reader_sections.specs.Leading.{Stands, Before, Judged}
+use Rattle.reader_sections.specs.declared.steps.Step.{Step}
+use Rattle.reader_sections.proofs.FormLaws.{codeAt, takes-code}
+use Rattle.reader_sections.proofs.Leads.{code-no, takes-fixed}
 use Rattle.reader_sections.proofs.phenomenon_ws.read_storm.Statement.{statement}
 use Rattle.reader_sections.proofs.phenomenon_ws.read_storm.Tie as tie
+
+module _ {t : List ℕ} {from to : Step} {storm code : ℕ} (f : Stands t from) (e : code ≡ codeAt t from) where
+  storm-ts : code ≡ 0x015453 → Before t (from .end) to → WeatherFrom (λ o. atStorm o storm) t from to (2 * storm - 1)
+  unfolding step
+  storm-ts y p = record { says = λ o. takes-code f e fixed-ts y p (atStorm o storm) _ (λ z i. rw i); stands = p .stands }
+
+  storm-tsgr : (code ≡ 0x015453 → ⊥) → Judged t from (eqb code 0x0154534752) 7 to → WeatherFrom (λ o. atStorm o storm) t from to (2 * storm)
+  unfolding step
+  storm-tsgr n j = record { says = λ o. takes-fixed f e j .says _ fixed-tsgr (atStorm o storm) _ (λ z. rw (code-no f e z fixed-ts n)) refl; stands = j .stands }
 
 code-of-requires : tie.Need-code-of-requires
 code-of-requires c κs = search needs
@@ -21,11 +37,7 @@ sub-t9 : tie.Need-sub-t9
 sub-t9 c = search needs
 
 returns : tie.Need-returns
-unfolding step
-returns c =
-    let f = c .before .before .before .before .pre .0 in
-    let e = c .before .before .code-of .ensures in
-    record { says = λ o. goes-code f e fixed-ts (c .before .if1 .taken) (c .step-at .ensures) (atStorm o _) _ (rw (code-yes f e fixed-ts (c .before .if1 .taken))); stands = search needs }
+returns c = search storm-ts
 
 judged-requires : tie.Need-judged-requires
 judged-requires c κs = search needs
@@ -34,14 +46,7 @@ mul-t10 : tie.Need-mul-t10
 mul-t10 c = search needs
 
 returns-2 : tie.Need-returns-2
-unfolding step
-returns-2 c =
-    let f = c .before .before .before .before .pre .0 in
-    let e = c .before .before .code-of .ensures in
-    record {
-      says = λ o. takes-fixed f e (c .judged .ensures) .says _ fixed-tsgr (atStorm o _) _ (λ z. rw (code-no f e z fixed-ts (c .before .if1 .left))) refl;
-      stands = search needs;
-    }
+returns-2 c = search storm-tsgr
 
 pub read-storm-spec : {M : Type 1} → statement M
 read-storm-spec =

@@ -1,16 +1,59 @@
--- `read_weather` meets its contract: a storm is takes-by-field by its place in the table of codes, and the rest is a choice by codes. Assumes nothing.
+-- `read_weather` meets its contract: a storm is told by its place in the table of codes, and the rest is a choice by codes. Assumes nothing.
 use borrow.Author.Needs.{needs}
-use mathlib.Core.Path.{refl, _∙_}
+use mathlib.Core.List.{List, [], _∷_, map}
+use mathlib.Core.Path.{_≡_, refl, _∙_}
+use Prim.Native.Nat.{ℕ, _+_, _≤_, _<_}
+use lib.Dec.{eqb}
 use Rattle.lists.specs.Base.{worthAfter}
-use Rattle.lists.specs.Lists.{allOf}
+use Rattle.lists.specs.Lists.{allOf, indexOf}
 use Rattle.figures.specs.Codes.{codeOf}
-use Rattle.grammar.specs.States.State.{atForm, atSevere, atHeavy, atRadioactive}
+use Rattle.grammar.specs.States.State.{atForm, atStorm, atSevere, atHeavy, atRadioactive}
 use Rattle.grammar.specs.Steps.{stormWords}
-use Rattle.reader_sections.proofs.Leads.{then, goes-code, code-going, code-yes, code-no, takes-fixed}
 use Rattle.vocabulary.proofs.FixedWords.{fixed-sev, fixed-hvy, fixed-rdoact}
+use Rattle.reader_sections.specs.Phenomena.{WeatherFrom, WeatherSays}
+use Rattle.reader_sections.specs.Leading.{Stands, Before, Judged}
+use Rattle.reader_sections.specs.declared.steps.Step.{Step}
+use Rattle.reader_sections.proofs.FormLaws.{codeAt, takes-code}
+use Rattle.reader_sections.proofs.Leads.{then, code-no, takes-fixed}
 use Rattle.reader_sections.proofs.Storms.{goes-storm, no-storm}
 use Rattle.reader_sections.proofs.phenomenon_ws.read_weather.Statement.{statement}
 use Rattle.reader_sections.proofs.phenomenon_ws.read_weather.Tie as tie
+
+abbrev storms : List ℕ
+storms = 0x014f425343 ∷ 0x01454d4244 ∷ 0x01465251 ∷ 0x0153514c ∷ []
+
+the-storms : storms ≡ map codeOf stormWords
+unfolding codeOf worthAfter allOf stormWords
+the-storms = refl
+
+module _ {t : List ℕ} {from a to : Step} {code n phenomenon : ℕ} (f : Stands t from) (e : code ≡ codeAt t from) (found : n ≡ indexOf (eqb code) storms) where
+  storm-first : n < 4 → Before t (from .end) a → WeatherFrom (λ o. atStorm o (n + 1)) t a to phenomenon → WeatherSays t from to phenomenon
+  storm-first l p rest = record { says = λ o j. then (goes-storm f e found the-storms l p o j) (rest .says o); stands = rest .stands }
+
+  module _ (none : 4 ≤ n) where
+    sev-first : code ≡ 0x01534556 → Before t (from .end) a → WeatherFrom atSevere t a to phenomenon → WeatherSays t from to phenomenon
+    sev-first y p rest = record {
+      says = λ o j. then (takes-code f e fixed-sev y p (atForm o) (atSevere o) (λ z i. j z ∙ rw (no-storm f e found the-storms z none, i))) (rest .says o);
+      stands = rest .stands;
+    }
+
+    module _ (no-sev : code ≡ 0x01534556 → ⊥) where
+      hvy-first : code ≡ 0x01485659 → Before t (from .end) a → WeatherFrom atHeavy t a to phenomenon → WeatherSays t from to phenomenon
+      hvy-first y p rest = record {
+        says = λ o j. then
+            (takes-code f e fixed-hvy y p (atForm o) (atHeavy o) (λ z i. j z ∙ rw (no-storm f e found the-storms z none, code-no f e z fixed-sev no-sev, i)))
+            (rest .says o);
+        stands = rest .stands;
+      }
+
+      rdoact-first : (code ≡ 0x01485659 → ⊥) → Judged t from (eqb code 0x0152444f414354) 7 a → WeatherFrom atRadioactive t a to phenomenon → WeatherSays t from to phenomenon
+      rdoact-first no-hvy j rest = record {
+        says = λ o k. then
+            (takes-fixed f e j .says _ fixed-rdoact (atForm o) (atRadioactive o)
+            (λ z. k z ∙ rw (no-storm f e found the-storms z none, code-no f e z fixed-sev no-sev, code-no f e z fixed-hvy no-hvy)) refl)
+            (rest .says o);
+        stands = rest .stands;
+      }
 
 code-of-requires : tie.Need-code-of-requires
 code-of-requires c κs = search needs
@@ -34,12 +77,7 @@ read-storm-requires : tie.Need-read-storm-requires
 read-storm-requires c κs = search needs
 
 returns : tie.Need-returns
-unfolding codeOf worthAfter allOf stormWords
-returns c =
-    record {
-      says = λ o j. then (goes-storm (c .before .before .before .before .before .before .before .pre) (c .before .before .before .before .before .code-of .ensures) (c .before .before .before .find .ensures) refl (c .before .before .if1 .taken) (c .before .step-at .ensures) o j) (c .read-storm .ensures .says o);
-      stands = search needs;
-    }
+returns c = search storm-first
 
 step-at-requires-2 : tie.Need-step-at-requires-2
 step-at-requires-2 c κs = search needs
@@ -48,18 +86,7 @@ read-severe-requires : tie.Need-read-severe-requires
 read-severe-requires c κs = search needs
 
 returns-2 : tie.Need-returns-2
-unfolding codeOf worthAfter allOf stormWords
-returns-2 c =
-    let f = c .before .before .before .before .before .before .before .before .pre in
-    let e = c .before .before .before .before .before .before .code-of .ensures in
-    let z = code-going f e fixed-sev (c .before .before .if2 .taken) in
-    record {
-      says = λ o j. then
-          (goes-code f e fixed-sev (c .before .before .if2 .taken) (c .before .step-at2 .ensures) (atForm o) (atSevere o)
-          (j z ∙ rw (no-storm f e (c .before .before .before .before .find .ensures) refl z (c .before .before .before .if1 .left), code-yes f e fixed-sev (c .before .before .if2 .taken))))
-          (c .read-severe .ensures .says o);
-      stands = search needs;
-    }
+returns-2 c = search sev-first
 
 step-at-requires-3 : tie.Need-step-at-requires-3
 step-at-requires-3 c κs = search needs
@@ -68,18 +95,7 @@ read-heavy-requires : tie.Need-read-heavy-requires
 read-heavy-requires c κs = search needs
 
 returns-3 : tie.Need-returns-3
-unfolding codeOf worthAfter allOf stormWords
-returns-3 c =
-    let f = c .before .before .before .before .before .before .before .before .before .pre in
-    let e = c .before .before .before .before .before .before .before .code-of .ensures in
-    let z = code-going f e fixed-hvy (c .before .before .if3 .taken) in
-    record {
-      says = λ o j. then
-          (goes-code f e fixed-hvy (c .before .before .if3 .taken) (c .before .step-at3 .ensures) (atForm o) (atHeavy o)
-          (j z ∙ rw (no-storm f e (c .before .before .before .before .before .find .ensures) refl z (c .before .before .before .before .if1 .left), code-no f e z fixed-sev (c .before .before .before .if2 .left), code-yes f e fixed-hvy (c .before .before .if3 .taken))))
-          (c .read-heavy .ensures .says o);
-      stands = search needs;
-    }
+returns-3 c = search hvy-first
 
 judged-requires : tie.Need-judged-requires
 judged-requires c κs = search needs
@@ -88,17 +104,7 @@ read-radioactive-requires : tie.Need-read-radioactive-requires
 read-radioactive-requires c κs = search needs
 
 returns-4 : tie.Need-returns-4
-unfolding codeOf worthAfter allOf stormWords
-returns-4 c =
-    let f = c .before .before .before .before .before .before .before .before .before .pre in
-    let e = c .before .before .before .before .before .before .before .code-of .ensures in
-    record {
-      says = λ o j. then
-          (takes-fixed f e (c .before .judged .ensures) .says _ fixed-rdoact (atForm o) (atRadioactive o)
-          (λ z. j z ∙ rw (no-storm f e (c .before .before .before .before .before .find .ensures) refl z (c .before .before .before .before .if1 .left), code-no f e z fixed-sev (c .before .before .before .if2 .left), code-no f e z fixed-hvy (c .before .before .if3 .left))) refl)
-          (c .read-radioactive .ensures .says o);
-      stands = search needs;
-    }
+returns-4 c = search rdoact-first
 
 pub read-weather-spec : {M : Type 1} → statement M
 read-weather-spec =

@@ -1,13 +1,39 @@
--- `read_ash` meets its contract. Assumes nothing.
+-- `read_ash` meets its contract: VA, and then CLD, or ERUPTION and what follows it. Assumes nothing.
 use borrow.Author.Needs.{needs}
-use mathlib.Core.Path.{refl}
+use mathlib.Core.Bool.{Bool, true, false}
+use mathlib.Core.List.{List}
+use mathlib.Core.Path.{_≡_, refl}
+use Prim.Native.Nat.{ℕ}
+use Rattle.lists.specs.Text.{bytes}
+use Rattle.message.specs.Reports.{noVolcano}
+use Rattle.message.specs.declared.Volcano.{Volcano}
 use Rattle.grammar.specs.States.State.{atForm, atAsh, atEruption}
 use Rattle.grammar.specs.Steps.{step}
-use Rattle.reader_sections.proofs.Leads.{then}
 use Rattle.vocabulary.proofs.FixedWords.{fixed-va, fixed-cld}
-use Rattle.reader_sections.proofs.Storms.{eruption-tells}
+use Rattle.reader_sections.specs.Phenomena.{EruptionSays, AshSays}
+use Rattle.reader_sections.specs.Leading.{TakesFixed, TakesLong, MayTake}
+use Rattle.reader_sections.specs.declared.steps.Step.{Step}
+use Rattle.reader_sections.proofs.Leads.{then}
 use Rattle.reader_sections.proofs.phenomenon_wv.read_ash.Statement.{statement}
 use Rattle.reader_sections.proofs.phenomenon_wv.read_ash.Tie as tie
+
+module _ {t : List ℕ} {from a b : Step} {found : Bool} (va : TakesFixed 0x015641 7 t from a) (cld : MayTake 0x01434c44 t a found b) where
+  va-cld : found ≡ true → AshSays t from b 16 noVolcano
+  unfolding step
+  va-cld y = record {
+    says = λ o j. then (va .says _ fixed-va (atForm o) (atAsh o) j refl) (cld .with y _ fixed-cld (atAsh o) _ (λ i. rw i));
+    stands = cld .stands;
+  }
+
+  va-eruption : {c to : Step} {n : ℕ} {v : Volcano} → found ≡ false → TakesLong (bytes "ERUPTION") 7 t b c → EruptionSays t c to n v → AshSays t from to n v
+  unfolding step
+  va-eruption n eruption rest = record {
+    says = λ o j. then (va .says _ fixed-va (atForm o) (atAsh o) j refl)
+        (then (cld .without n _ fixed-cld (atAsh o) (atAsh o) (λ z i. refl) refl)
+        (then (eruption .says (atAsh o) (atEruption o) (λ z. rw (cld .other n _ fixed-cld z)) refl)
+        (rest .says o)));
+    stands = rest .stands;
+  }
 
 fixed-at-requires : tie.Need-fixed-at-requires
 fixed-at-requires c κs = search needs
@@ -15,17 +41,11 @@ fixed-at-requires c κs = search needs
 perhaps-at-requires : tie.Need-perhaps-at-requires
 perhaps-at-requires c κs = search needs
 
-no-volcano-requires : tie.Need-no-volcano-requires
-no-volcano-requires c κs = search needs
-
 returns : tie.Need-returns
-unfolding step
-returns c =
-    record {
-      says = λ o j. then (c .before .before .before .before .fixed-at .ensures .says _ fixed-va (atForm o) (atAsh o) j refl)
-          (c .before .before .before .perhaps-at .ensures .with (c .before .before .if1 .taken) _ fixed-cld (atAsh o) _ (λ y. rw (y, c .no-volcano .ensures)));
-      stands = search needs;
-    }
+returns c = search va-cld
+
+slice-aggregate-long-at : tie.Need-slice-aggregate-long-at
+slice-aggregate-long-at c = search needs
 
 long-at-requires : tie.Need-long-at-requires
 long-at-requires c κs = search needs
@@ -34,16 +54,7 @@ read-eruption-requires : tie.Need-read-eruption-requires
 read-eruption-requires c κs = search needs
 
 returns-2 : tie.Need-returns-2
-unfolding step
-returns-2 c =
-    let cloud = c .before .before .before .perhaps-at .ensures in
-    record {
-      says = λ o j. then (c .before .before .before .before .fixed-at .ensures .says _ fixed-va (atForm o) (atAsh o) j refl)
-          (then (cloud .without (c .before .before .if1 .left) _ fixed-cld (atAsh o) (atAsh o) (λ z n. refl) refl)
-          (then (c .before .long-at .ensures .says (atAsh o) (atEruption o) (λ z. rw (cloud .other (c .before .before .if1 .left) _ fixed-cld z, eruption-tells)) refl)
-          (c .read-eruption .ensures .says o)));
-      stands = search needs;
-    }
+returns-2 c = search va-eruption
 
 pub read-ash-spec : {M : Type 1} → statement M
 read-ash-spec =
@@ -51,8 +62,8 @@ read-ash-spec =
     (tie.spec
     fixed-at-requires
     perhaps-at-requires
-    no-volcano-requires
     returns
+    slice-aggregate-long-at
     long-at-requires
     read-eruption-requires
     returns-2)

@@ -1,16 +1,41 @@
--- `read_mountain` meets its contract. Assumes nothing.
+-- `read_mountain` meets its contract: with MT a name and PSN, without it PSN. Assumes nothing.
 use borrow.Author.Needs.{needs}
-use mathlib.Core.Path.{refl}
+use mathlib.Core.Bool.{Bool, true, false}
+use mathlib.Core.List.{List}
+use mathlib.Core.Path.{_≡_, refl}
+use Prim.Native.Nat.{ℕ}
 use borrow.Author.Tests.{not-true, not-false}
-use lib.ListN.{take}
 use Rattle.message.specs.Names.{noName}
+use Rattle.message.specs.declared.Name.{Name}
 use Rattle.grammar.specs.States.State.{atEruption, atMountain, atMoreMountain, atPosition}
 use Rattle.grammar.specs.Steps.{step}
-use Rattle.reader_sections.proofs.Leads.{then}
 use Rattle.vocabulary.proofs.FixedWords.{fixed-mt, fixed-psn}
+use Rattle.reader_sections.specs.Naming.{NameSays}
+use Rattle.reader_sections.specs.Phenomena.{MountainSays}
+use Rattle.reader_sections.specs.Leading.{TakesFixed, MayTake}
+use Rattle.reader_sections.specs.declared.steps.Step.{Step}
+use Rattle.reader_sections.proofs.Leads.{then}
 use Rattle.reader_sections.proofs.NameText.{mountainClosed, mountain-takes, name-closed}
 use Rattle.reader_sections.proofs.phenomenon_wv.read_mountain.Statement.{statement}
 use Rattle.reader_sections.proofs.phenomenon_wv.read_mountain.Tie as tie
+
+module _ {t : List ℕ} {from a to : Step} {found : Bool} (mt : MayTake 0x014d54 t from found a) where
+  psn-alone : found ≡ false → TakesFixed 0x0150534e 7 t a to → MountainSays t from to noName
+  unfolding step
+  psn-alone n psn = record {
+    says = λ o. then (mt .without n _ fixed-mt (atEruption o) (atEruption o) (λ z i. refl) refl)
+        (psn .says _ fixed-psn (atEruption o) (atPosition o noName) (λ z. rw (mt .other n _ fixed-mt z)) refl);
+    stands = psn .stands;
+  }
+
+  mt-name-psn : {b : Step} {name : Name} → found ≡ true → NameSays true 30 7 t a b name → TakesFixed 0x0150534e 7 t b to → MountainSays t from to name
+  unfolding step
+  mt-name-psn y whole psn = record {
+    says = λ o. then (mt .with y _ fixed-mt (atEruption o) (atMountain o) (λ i. rw i))
+        (then (whole .says (atMountain o) (atMoreMountain o) _ (mountain-takes o))
+        (psn .says _ fixed-psn (atMoreMountain o _) _ (λ z. name-closed (mountainClosed o) whole z (mountain-takes o)) refl));
+    stands = psn .stands;
+  }
 
 perhaps-at-requires : tie.Need-perhaps-at-requires
 perhaps-at-requires c κs = search needs
@@ -18,19 +43,8 @@ perhaps-at-requires c κs = search needs
 fixed-at-requires : tie.Need-fixed-at-requires
 fixed-at-requires c κs = search needs
 
-no-name-requires : tie.Need-no-name-requires
-no-name-requires c κs = search needs
-
 returns : tie.Need-returns
-unfolding step
-returns c =
-    let mount = c .before .before .before .before .perhaps-at .ensures in
-    record {
-      says = λ o. rw (c .no-name .ensures)
-          (then (mount .without (search (not-true, needs)) _ fixed-mt (atEruption o) (atEruption o) (λ z n. refl) refl)
-          (c .before .fixed-at .ensures .says _ fixed-psn (atEruption o) (atPosition o noName) (λ z. rw (mount .other (search (not-true, needs)) _ fixed-mt z)) refl));
-      stands = search needs;
-    }
+returns c = search (psn-alone, not-true)
 
 read-name-requires : tie.Need-read-name-requires
 read-name-requires c κs = search needs
@@ -39,15 +53,7 @@ fixed-at-requires-2 : tie.Need-fixed-at-requires-2
 fixed-at-requires-2 c κs = search needs
 
 returns-2 : tie.Need-returns-2
-unfolding step
-returns-2 c =
-    let n = c .before .before .read-name .result .name in
-    record {
-      says = λ o. then (c .before .before .before .before .before .perhaps-at .ensures .with (search (not-false, needs)) _ fixed-mt (atEruption o) (atMountain o) (λ y. rw y))
-          (then (c .before .before .read-name .ensures .says (atMountain o) (atMoreMountain o) _ (mountain-takes o))
-          (c .before .fixed-at2 .ensures .says _ fixed-psn (atMoreMountain o (take (n .count) (n .bytes))) _ (λ z. name-closed (mountainClosed o) (c .before .before .read-name .ensures) z (mountain-takes o)) refl));
-      stands = search needs;
-    }
+returns-2 c = search (mt-name-psn, not-false)
 
 pub read-mountain-spec : {M : Type 1} → statement M
 read-mountain-spec =
@@ -55,7 +61,6 @@ read-mountain-spec =
     (tie.spec
     perhaps-at-requires
     fixed-at-requires
-    no-name-requires
     returns
     read-name-requires
     fixed-at-requires-2

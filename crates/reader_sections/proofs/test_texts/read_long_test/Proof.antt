@@ -1,13 +1,31 @@
 -- `read_long_test` meets its contract: the words of the longest text, one after another. Assumes nothing.
 use borrow.Author.Needs.{needs}
+use mathlib.Core.List.{List}
 use mathlib.Core.Path.{refl}
+use Prim.Native.Nat.{ℕ}
 use Rattle.message.specs.Words.{testTexts}
 use Rattle.grammar.specs.States.State.{atTestText}
 use Rattle.grammar.specs.Steps.{step}
-use Rattle.reader_sections.proofs.Leads.{then}
 use Rattle.vocabulary.proofs.FixedWords.{fixed-test, fixed-this, fixed-is, fixed-a, fixed-sigmet-comma}
+use Rattle.reader_sections.specs.Forms.{PleaseSays, LongTestSays}
+use Rattle.reader_sections.specs.Leading.{TakesFixed}
+use Rattle.reader_sections.specs.declared.steps.Step.{Step}
+use Rattle.reader_sections.proofs.Leads.{then}
 use Rattle.reader_sections.proofs.test_texts.read_long_test.Statement.{statement}
 use Rattle.reader_sections.proofs.test_texts.read_long_test.Tie as tie
+
+this-is-a-test : {t : List ℕ} {from b c d e f to : Step} → TakesFixed 0x0154484953 7 t from b → TakesFixed 0x014953 7 t b c → TakesFixed 0x0141 7 t c d
+    → TakesFixed 0x0154455354 7 t d e → TakesFixed 0x015349474d45542c 7 t e f → PleaseSays t f to → LongTestSays t from to
+unfolding step testTexts
+this-is-a-test this is a test sigmet please = record {
+  says = λ o. then (this .says _ fixed-this (atTestText o 3 1) (atTestText o 3 2) (λ z. refl) refl)
+      (then (is .says _ fixed-is (atTestText o 3 2) (atTestText o 3 3) (λ z. refl) refl)
+      (then (a .says _ fixed-a (atTestText o 3 3) (atTestText o 3 4) (λ z. refl) refl)
+      (then (test .says _ fixed-test (atTestText o 3 4) (atTestText o 3 5) (λ z. refl) refl)
+      (then (sigmet .says _ fixed-sigmet-comma (atTestText o 3 5) (atTestText o 3 6) (λ z. refl) refl)
+      (please .third o)))));
+  stands = please .stands;
+}
 
 fixed-at-requires : tie.Need-fixed-at-requires
 fixed-at-requires c κs = search needs
@@ -28,17 +46,7 @@ read-please-requires : tie.Need-read-please-requires
 read-please-requires c κs = search needs
 
 returns : tie.Need-returns
-unfolding step testTexts
-returns c =
-    record {
-      says = λ o. then (c .before .before .before .before .before .fixed-at .ensures .says _ fixed-this (atTestText o 3 1) (atTestText o 3 2) (λ z. refl) refl)
-          (then (c .before .before .before .before .fixed-at2 .ensures .says _ fixed-is (atTestText o 3 2) (atTestText o 3 3) (λ z. refl) refl)
-          (then (c .before .before .before .fixed-at3 .ensures .says _ fixed-a (atTestText o 3 3) (atTestText o 3 4) (λ z. refl) refl)
-          (then (c .before .before .fixed-at4 .ensures .says _ fixed-test (atTestText o 3 4) (atTestText o 3 5) (λ z. refl) refl)
-          (then (c .before .fixed-at5 .ensures .says _ fixed-sigmet-comma (atTestText o 3 5) (atTestText o 3 6) (λ z. refl) refl)
-          (c .read-please .ensures .third o)))));
-      stands = search needs;
-    }
+returns c = search this-is-a-test
 
 pub read-long-test-spec : {M : Type 1} → statement M
 read-long-test-spec =

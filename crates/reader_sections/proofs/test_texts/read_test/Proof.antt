@@ -1,31 +1,43 @@
 -- `read_test` meets its contract: without SIGMET the test is over, and with it the second text goes on. Assumes nothing.
 use borrow.Author.Needs.{needs}
-use mathlib.Core.Path.{refl}
+use mathlib.Core.Bool.{Bool, true, false}
+use mathlib.Core.List.{List}
+use mathlib.Core.Path.{_≡_, refl}
+use Prim.Native.Nat.{ℕ}
 use borrow.Author.Tests.{not-true, not-false}
 use Rattle.grammar.specs.States.State.{atTest, atTestText}
 use Rattle.grammar.specs.Steps.{step}
-use Rattle.reader_sections.proofs.Leads.{then}
 use Rattle.vocabulary.proofs.FixedWords.{fixed-sigmet}
+use Rattle.reader_sections.specs.Forms.{PleaseSays, TestSays}
+use Rattle.reader_sections.specs.Leading.{MayTake}
+use Rattle.reader_sections.specs.declared.steps.Step.{Step}
+use Rattle.reader_sections.proofs.Leads.{then}
 use Rattle.reader_sections.proofs.test_texts.read_test.Statement.{statement}
 use Rattle.reader_sections.proofs.test_texts.read_test.Tie as tie
+
+module _ {t : List ℕ} {from a : Step} {found : Bool} (sigmet : MayTake 0x015349474d4554 t from found a) where
+  test-only : found ≡ false → TestSays t from a 1
+  unfolding step
+  test-only n = record { says = λ o. sigmet .without n _ fixed-sigmet (atTest o) _ (λ z i. rw i) refl; stands = sigmet .stands }
+
+  test-sigmet : {to : Step} → found ≡ true → PleaseSays t a to → TestSays t from to 2
+  unfolding step
+  test-sigmet y please = record {
+    says = λ o. then (sigmet .with y _ fixed-sigmet (atTest o) (atTestText o 2 2) (λ i. rw i)) (please .second o);
+    stands = please .stands;
+  }
 
 perhaps-at-requires : tie.Need-perhaps-at-requires
 perhaps-at-requires c κs = search needs
 
 returns : tie.Need-returns
-unfolding step
-returns c = record { says = λ o. c .before .before .before .perhaps-at .ensures .without (search (not-true, needs)) _ fixed-sigmet (atTest o) _ (λ z n. rw n) refl; stands = search needs }
+returns c = search (test-only, not-true)
 
 read-please-requires : tie.Need-read-please-requires
 read-please-requires c κs = search needs
 
 returns-2 : tie.Need-returns-2
-unfolding step
-returns-2 c =
-    record {
-      says = λ o. then (c .before .before .before .perhaps-at .ensures .with (search (not-false, needs)) _ fixed-sigmet (atTest o) (atTestText o 2 2) (λ y. rw y)) (c .read-please .ensures .second o);
-      stands = search needs;
-    }
+returns-2 c = search (test-sigmet, not-false)
 
 pub read-test-spec : {M : Type 1} → statement M
 read-test-spec = tie.close (tie.spec perhaps-at-requires returns read-please-requires returns-2)
