@@ -28,3 +28,8 @@ pub record LineSays (t : List ℕ) (from to : Step) (l : FirstLine) : Type 0 whe
 pub record AreaSays (t : List ℕ) (from to : Step) (a : Area) : Type 0 where
   pub says : (h : Heading) (l : FirstLine) → Leads (atIndicator h l) t from to (atForm (record { heading = h; line = l; area = a }))
   pub stands : Stands t to
+
+-- all three
+pub record OpeningSays (t : List ℕ) (from to : Step) (h : Heading) (l : FirstLine) (a : Area) : Type 0 where
+  pub says : Leads atDesignator t from to (atForm (record { heading = h; line = l; area = a }))
+  pub stands : Stands t to

@@ -15,6 +15,7 @@ mod level;
 mod location;
 mod name;
 mod observation;
+mod opening;
 mod outline;
 mod parts;
 mod phenomenon_ws;
@@ -24,13 +25,11 @@ mod required_words;
 mod steps;
 mod test_texts;
 
-use area::read_area;
 use body::read_body;
-use first_line::read_line;
 use grammar::Reply;
 use grammar::refusal;
-use heading::read_heading;
 use message::Record;
+use opening::read_opening;
 use steps::step_at;
 
 // The reply to the text before the first `=`: its record, or 4 to 12 at a word. What is refused up to the area is answered at once, for a bad
@@ -38,16 +37,14 @@ use steps::step_at;
 pub fn read_text(text: &[u8]) -> Reply
     ensures { λ r. ⌜ r ≡ replyOf (runAt atDesignator (now (text .entry)) 0) ⌝ }
 {
-    let headed = read_heading(text, step_at(text, 0));
-    let lined = read_line(text, headed.step);
-    let bounded = read_area(text, lined.step);
-    let reached = bounded.step;
+    let opening = read_opening(text, step_at(text, 0));
+    let reached = opening.step;
     if reached.number != 0 {
         return refusal(reached.number, reached.place);
     }
-    let heading = headed.heading;
-    let line = lined.line;
-    let area = bounded.area;
+    let heading = opening.heading;
+    let line = opening.line;
+    let area = opening.area;
     let designator = heading.designator;
     let rest = read_body(text, reached, designator.kind, line, area.closing);
     let last = rest.step;

@@ -18,7 +18,7 @@ of-ws : {t : List ℕ} {from to : Step} {kind p : ℕ} → kind ≡ ws → Weath
 of-ws is weather = record { says = λ o k r. weather .says o (λ z. weather-form o _ (r z) (k ∙ is)); stands = weather .stands }
 
 of-wv : {t : List ℕ} {from to : Step} {kind p : ℕ} {v : Volcano} → (kind ≡ ws → ⊥) → AshSays t from to p v → PhenomenonSays kind t from to p v
-of-wv no ash = record { says = λ o k r. ash .says o (λ z. ash-form o _ (r z) (λ y. no (sym k ∙ y))); stands = ash .stands }
+of-wv other ash = record { says = λ o k r. ash .says o (λ z. ash-form o _ (r z) (λ y. other (sym k ∙ y))); stands = ash .stands }
 
 read-weather-requires : tie.Need-read-weather-requires
 read-weather-requires c κs = search needs

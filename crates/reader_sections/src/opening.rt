@@ -1,0 +1,36 @@
+// What every message begins with: heading, first line and area.
+ghost use Rattle.reader_sections.specs.Heads.{OpeningSays};
+ghost use Rattle.reader_sections.specs.Leading.{Stands};
+use crate::area::read_area;
+use crate::first_line::read_line;
+use crate::heading::read_heading;
+use crate::steps::Step;
+use message::Area;
+use message::FirstLine;
+use message::Heading;
+
+pub(crate) struct OpeningRead {
+    pub step: Step,
+    pub heading: Heading,
+    pub line: FirstLine,
+    pub area: Area,
+}
+
+pub(crate) fn read_opening(text: &[u8], from: Step) -> OpeningRead
+    requires { ⌜ Stands (now text) from ⌝ }
+    ensures { λ r. ⌜ OpeningSays (now (text .entry)) from (r .step) (r .heading) (r .line) (r .area) ⌝ }
+{
+    let headed = read_heading(text, from);
+    let lined = read_line(text, headed.step);
+    let bounded = read_area(text, lined.step);
+    let step = bounded.step;
+    let heading = headed.heading;
+    let line = lined.line;
+    let area = bounded.area;
+    OpeningRead {
+        step,
+        heading,
+        line,
+        area,
+    }
+}
