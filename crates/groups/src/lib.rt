@@ -33,8 +33,10 @@ pub struct Time {
 }
 
 // What `time_word` answers where a word is no time: 0000Z is one.
-pub const NO_TIME: Time = Time {
-    hour: 24,
+pub const NO_HOUR: u8 = 24;
+
+const NO_TIME: Time = Time {
+    hour: NO_HOUR,
     minute: 0,
 };
 
@@ -101,7 +103,7 @@ pub fn good_time(t: Time) -> bool
     on_clock(t.hour, t.minute)
 }
 
-// The time that a word `GGggZ` is, or hour 24.
+// The time that a word `GGggZ` is, or `NO_HOUR`.
 pub fn time_word(w: &[u8]) -> Time
     ensures { λ r. ⌜ r ≡ timeOf (now (w .entry)) ⌝ }
 {

@@ -42,12 +42,30 @@ pub const LEAST_POINTS: usize = 4;
 
 pub const MOST_POINTS: usize = 7;
 
-// The phenomena of a WS are 1 to 15. Those of a WV: a cloud of ash, and a cloud with the eruption that it comes from.
-pub const LAST_WEATHER: u8 = 15;
+// Phenomena, in the paper's order. The storms are 1 to 8: OBSC, EMBD, FRQ and SQL, each with TS and then with TSGR.
+pub const SEV_TURB: u8 = 9;
 
+pub const SEV_ICE: u8 = 10;
+
+pub const SEV_ICE_FZRA: u8 = 11;
+
+pub const SEV_MTW: u8 = 12;
+
+pub const HVY_DS: u8 = 13;
+
+pub const HVY_SS: u8 = 14;
+
+pub const RDOACT_CLD: u8 = 15;
+
+// Those of a WV: a cloud of ash, and a cloud with the eruption that it comes from.
 pub const ASH_CLOUD: u8 = 16;
 
 pub const ASH_ERUPTION: u8 = 17;
+
+// The first word of an observation.
+pub const OBSERVED: u8 = 1;
+
+pub const FORECAST: u8 = 2;
 
 // Letters are kept as one number, in base 256.
 pub struct Heading {
@@ -101,7 +119,7 @@ pub const NO_VOLCANO: Volcano = Volcano {
     position: NO_POINT,
 };
 
-// 1 OBS or 2 FCST, and the time, where one is given.
+// OBS or FCST, and the time, where one is given.
 pub struct Observation {
     pub word: u8,
     pub timed: bool,

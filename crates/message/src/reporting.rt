@@ -6,9 +6,11 @@ use crate::ASH_CLOUD;
 use crate::ASH_ERUPTION;
 use crate::Ending;
 use crate::Extent;
-use crate::LAST_WEATHER;
+use crate::FORECAST;
 use crate::MOUNTAIN_BYTES;
+use crate::OBSERVED;
 use crate::Observation;
+use crate::RDOACT_CLD;
 use crate::Report;
 use crate::Volcano;
 use crate::locating;
@@ -22,6 +24,7 @@ use levels::empty_level;
 use levels::good_level;
 use lists::both;
 use lists::either;
+use motions::NO_COMPASS;
 use motions::good_speed;
 
 fn good_volcano(v: Volcano) -> bool
@@ -48,10 +51,7 @@ fn good_phenomenon(kind: u8, n: u8, v: Volcano) -> bool
     ensures { λ r. ⌜ r ≡ goodPhenomenon kind n v ⌝ }
 {
     let quiet = empty_volcano(v);
-    let weather = both(
-        kind == KIND_WS,
-        both(both(1 <= n, n <= LAST_WEATHER), quiet),
-    );
+    let weather = both(kind == KIND_WS, both(both(1 <= n, n <= RDOACT_CLD), quiet));
     let cloud = both(n == ASH_CLOUD, quiet);
     let eruption = both(n == ASH_ERUPTION, good_volcano(v));
     either(weather, both(kind == KIND_WV, either(cloud, eruption)))
@@ -60,7 +60,7 @@ fn good_phenomenon(kind: u8, n: u8, v: Volcano) -> bool
 fn good_observation(o: Observation) -> bool
     ensures { λ r. ⌜ r ≡ goodObservation o ⌝ }
 {
-    let word = both(1 <= o.word, o.word <= 2);
+    let word = both(OBSERVED <= o.word, o.word <= FORECAST);
     let time = o.time;
     if o.timed {
         return both(word, good_time(time));
@@ -90,7 +90,7 @@ fn good_ending(kind: u8, e: Ending, f: Extent) -> bool
     match e {
         Ending::NoEnding => false,
         Ending::Moving(point, s, n) => both(
-            both(point < 16, both(good_speed(s), good_intensity(n))),
+            both(point < NO_COMPASS, both(good_speed(s), good_intensity(n))),
             locating::is_empty(f),
         ),
         Ending::Stationary(n) => both(good_intensity(n), locating::is_empty(f)),

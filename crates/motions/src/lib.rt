@@ -36,7 +36,10 @@ const COMPASS: [u64; 16] = [
     vocabulary::NNW,
 ];
 
-// The number of a compass point, 0 for N to 15 for NNW; 16 for any other word.
+// What `compass_word` answers where a word is no point of the compass.
+pub const NO_COMPASS: u8 = 16;
+
+// The number of a compass point, 0 for N to 15 for NNW; `NO_COMPASS` for any other word.
 pub fn compass_word(w: &[u8]) -> u8
     ensures { λ r. ⌜ r ≡ compassOf (now (w .entry)) ⌝ }
 {

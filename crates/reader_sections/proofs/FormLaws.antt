@@ -9,8 +9,7 @@ use Rattle.figures.specs.Codes.{codeOf, FixedWord}
 use Rattle.grammar.specs.States.{State}
 use Rattle.grammar.specs.States.Move.{goes}
 use Rattle.grammar.specs.Steps.{step}
-use Rattle.reader_sections.specs.Going.{wordFrom}
-use Rattle.reader_sections.specs.Leading.{Stands, Before, Leads}
+use Rattle.reader_sections.specs.Steps.{wordFrom, Stands, Before, Leads}
 use Rattle.reader_sections.specs.declared.steps.Step.{Step}
 use Rattle.reader_sections.proofs.Leads.{goes-code, code-going, code-yes}
 

@@ -21,13 +21,12 @@ use Rattle.grammar.specs.States.{State}
 use Rattle.grammar.specs.States.Move.{goes}
 use Rattle.grammar.specs.States.State.{atEnd, atCorrection, atUnit}
 use Rattle.grammar.specs.Steps.{step}
-use Rattle.reader_sections.specs.Going.{EndAt, Goes, wordFrom, WordAt}
+use Rattle.reader_sections.specs.Steps.{concluded, wordFrom, WordAt, runOn, Leads, Finishes, Stands, Before, Judged, Takes, TakesFixed, TakesLong, MayTake, Closes}
+use Rattle.reader_sections.proofs.OneWord.{Goes, good-word, bad-word, part-is, goes-word, same-word}
 use Rattle.reader_sections.specs.Heads.{CorrectionSays}
 use Rattle.figures.specs.Codes.{FixedWord}
-use Rattle.reader_sections.specs.Leading.{runOn, Leads, Finishes, Stands, Before, Judged, Takes, TakesFixed, TakesLong, MayTake, Closes}
 use Rattle.reader_sections.specs.declared.steps.Step.{Step}
-use Rattle.reader_sections.proofs.Going.{skip, word-again, some-word}
-use Rattle.reader_sections.proofs.KindLaws.{good-word, bad-word, part-is, goes-word, same-word}
+use Rattle.reader_sections.proofs.RunsAt.{skip, word-again, some-word}
 use Rattle.reader_sections.proofs.Tells.{FieldTells, correction-tells}
 
 module _ {s mid : State} {t : List ℕ} {from to : Step} (g : Leads s t from to mid) where
@@ -218,8 +217,9 @@ module _ {t : List ℕ} {from : Step} {c : ℕ} (f : Stands t from) (e : c ≡ c
 pub closes-stays : {from : Step} → (from .number ≡ 0 → ⊥) → Closes from from
 closes-stays {from} e = record { says = λ t r f. record { says = on-refused (atEnd r) t from e ∙ sym (pick-false _ _ (ne-eqb (from .number) 0 e)) } }
 
-pub closes-going : {from to : Step} → from .number ≡ 0 → ((t : List ℕ) → Stands t from → EndAt t (from .place) (to .number) (to .place)) → Closes from to
-closes-going {from} z e = record { says = λ t r f. record { says = on-going (atEnd r) t from z ∙ e t f .says r .says } }
+pub closes-going : {from to : Step} → from .number ≡ 0 → ((t : List ℕ) (r : Record) → Stands t from → runAt (atEnd r) t (from .place) ≡ concluded (to .number) (to .place) r)
+    → Closes from to
+closes-going {from} z e = record { says = λ t r f. record { says = on-going (atEnd r) t from z ∙ e t r f } }
 
 -- the empty word is none that has a byte
 no-word : (k : List ℕ) → 0 < length k → same [] k ≡ false

@@ -1,6 +1,5 @@
-pub mod Going
-pub mod Chains
-pub mod KindLaws
+pub mod RunsAt
+pub mod OneWord
 pub mod Tells
 pub mod Leads
 pub mod Sides

@@ -15,7 +15,7 @@ use Rattle.message.specs.Names.{noName}
 use Rattle.message.specs.declared.Name.{Name}
 use Rattle.grammar.specs.Records.{nameOf}
 use Rattle.grammar.specs.Steps.{grown}
-use Rattle.reader_sections.specs.Leading.{Stands}
+use Rattle.reader_sections.specs.Steps.{Stands}
 use Rattle.reader_sections.specs.Naming.{wordOn, FirstSays, GrownSays}
 use Rattle.reader_sections.specs.declared.steps.Step.{Step}
 

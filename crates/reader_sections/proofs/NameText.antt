@@ -24,13 +24,12 @@ use Rattle.grammar.specs.States.{ToArea, State, Move}
 use Rattle.grammar.specs.States.State.{atName, atMoreName, atForm, atMountain, atMoreMountain, atPosition}
 use Rattle.grammar.specs.Steps.{goesIf, grown, begun, goneOn, step}
 use Rattle.grammar.proofs.NameText.{open-area, open-mountain}
-use Rattle.reader_sections.specs.Going.{wordFrom}
-use Rattle.reader_sections.specs.Leading.{Leads, Stands, Before, Judged}
+use Rattle.reader_sections.specs.Steps.{wordFrom, Leads, Stands, Before, Judged}
 use Rattle.reader_sections.specs.Naming.{wordOn, BelongsSays, FirstSays, GrownSays, TakesName, NameSays}
 use Rattle.reader_sections.specs.declared.steps.Step.{Step}
 use Rattle.reader_sections.proofs.Leads.{then, over, whether, nothing, standing, past-leads, judged-good, takes}
-use Rattle.reader_sections.proofs.Going.{some-word}
-use Rattle.reader_sections.proofs.KindLaws.{part-is, goes-word}
+use Rattle.reader_sections.proofs.RunsAt.{some-word}
+use Rattle.reader_sections.proofs.OneWord.{part-is, goes-word}
 
 -- The states of a name.
 

@@ -28,15 +28,14 @@ use Rattle.grammar.specs.States.{Site}
 use Rattle.grammar.specs.States.Placing.{atLatitude, atLongitude, atDash}
 use Rattle.grammar.specs.States.State.{atPlace}
 use Rattle.grammar.specs.Steps.{closingAt, after}
-use Rattle.reader_sections.specs.Going.{wordFrom, WordAt}
-use Rattle.reader_sections.specs.Leading.{Leads, Stands, Judged, TakesFixed}
+use Rattle.reader_sections.specs.Steps.{wordFrom, WordAt, Leads, Stands, Judged, TakesFixed}
 use Rattle.reader_sections.specs.declared.steps.Step.{Step}
 use Rattle.reader_sections.specs.Outlines.{Points, FollowsSays, ClosesSays, LatitudeSays, LongitudeSays, PointSays}
 use Rattle.reader_sections.specs.Locations.{LocatedSays}
 use Rattle.reader_sections.proofs.Tells.{latitude-tells, longitude-tells}
 use Rattle.vocabulary.proofs.FixedWords.{fixed-dash}
-use Rattle.reader_sections.proofs.Going.{some-word}
-use Rattle.reader_sections.proofs.KindLaws.{part-is, goes-word, dead-word}
+use Rattle.reader_sections.proofs.RunsAt.{some-word}
+use Rattle.reader_sections.proofs.OneWord.{part-is, goes-word, dead-word}
 use Rattle.reader_sections.proofs.Leads.{then, over, nothing, judged-leads, judged-good, takes, field-good, standing}
 use Rattle.reader_sections.proofs.Sides.{on-step, there-step, nowhere-step, takes-on, fixed-on}
 

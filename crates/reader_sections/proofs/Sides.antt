@@ -30,14 +30,13 @@ use Rattle.grammar.specs.States.Site.{inReport, inForecast}
 use Rattle.grammar.specs.States.State.{atPlace}
 use Rattle.grammar.specs.States.Move.{goes, dead}
 use Rattle.grammar.specs.Steps.{goesIf, closingAt, after, stepAfter, settled, step}
-use Rattle.reader_sections.specs.Going.{wordFrom}
+use Rattle.reader_sections.specs.Steps.{wordFrom, Leads, Stands, Before, Judged, Takes, TakesFixed}
 use Rattle.figures.specs.Codes.{FixedWord}
-use Rattle.reader_sections.specs.Leading.{Leads, Stands, Before, Judged, Takes, TakesFixed}
 use Rattle.reader_sections.specs.declared.steps.Step.{Step}
 use Rattle.reader_sections.specs.Locations.{sideIn, SideSays}
 use Rattle.vocabulary.proofs.FixedWords.{fixed-of, fixed-fir, fixed-cta}
-use Rattle.reader_sections.proofs.Going.{some-word}
-use Rattle.reader_sections.proofs.KindLaws.{part-is, goes-word}
+use Rattle.reader_sections.proofs.RunsAt.{some-word}
+use Rattle.reader_sections.proofs.OneWord.{part-is, goes-word}
 use Rattle.reader_sections.proofs.Leads.{then, whether, nothing, takes, standing, past-leads}
 
 -- the number of what follows a location

@@ -16,11 +16,10 @@ use Rattle.figures.proofs.TableLaws.{find-word}
 use Rattle.grammar.specs.States.{ToArea}
 use Rattle.grammar.specs.States.State.{atForm, atStorm}
 use Rattle.grammar.specs.Steps.{stormWords, stormOf, goodStorm, stepWeather, step}
-use Rattle.reader_sections.specs.Going.{wordFrom}
-use Rattle.reader_sections.specs.Leading.{Leads, Stands, Before}
+use Rattle.reader_sections.specs.Steps.{wordFrom, Leads, Stands, Before}
 use Rattle.reader_sections.specs.declared.steps.Step.{Step}
-use Rattle.reader_sections.proofs.Going.{some-word}
-use Rattle.reader_sections.proofs.KindLaws.{part-is, goes-word}
+use Rattle.reader_sections.proofs.RunsAt.{some-word}
+use Rattle.reader_sections.proofs.OneWord.{part-is, goes-word}
 use Rattle.reader_sections.proofs.Leads.{whether, nothing, standing, past-leads}
 
 storms-short : allOf short stormWords ≡ true

@@ -37,7 +37,7 @@ use Rattle.names.specs.Names.{closingWords, closingOf, goodClosing}
 use Rattle.names.proofs.NameLaws.{closing-reads}
 use Rattle.grammar.specs.Steps.{cancels}
 use Rattle.reader_sections.specs.Endings.{forecastTime}
-use Rattle.reader_sections.proofs.KindLaws.{field-yes, field-no}
+use Rattle.reader_sections.proofs.OneWord.{field-yes, field-no}
 
 -- a kind that a field tells: a word's value is good exactly where the field is not the number of none, and the `=` is no word of the kind
 pub record FieldTells {A : Type 0} (read : List ℕ → A) (good : A → Bool) (field : A → ℕ) (none : ℕ) : Type 0 where

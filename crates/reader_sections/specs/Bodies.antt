@@ -10,7 +10,7 @@ use Rattle.grammar.specs.Records.{formed}
 use Rattle.grammar.specs.States.{ToArea}
 use Rattle.grammar.specs.States.State.{atForm, atTest, atTestText, atCancelSigmet}
 use Rattle.grammar.specs.Steps.{kindOf}
-use Rattle.reader_sections.specs.Leading.{Finishes}
+use Rattle.reader_sections.specs.Steps.{Finishes}
 use Rattle.reader_sections.specs.declared.steps.Step.{Step}
 
 -- after `TEST`

@@ -14,9 +14,8 @@ use Rattle.grammar.specs.Records.{areaOf, reportOf}
 use Rattle.grammar.specs.States.{ToLevel}
 use Rattle.grammar.specs.States.State.{atEnding, atCompass, atForecast, atEnd}
 use Rattle.grammar.specs.Steps.{goesIf, kindOf, sameTime, endTime, step}
-use Rattle.reader_sections.specs.Leading.{Stands, Leads}
+use Rattle.reader_sections.specs.Steps.{Stands, Leads, wordFrom}
 use Rattle.reader_sections.specs.declared.steps.Step.{Step}
-use Rattle.reader_sections.specs.Going.{wordFrom}
 
 pub record MovingSays (t : List ℕ) (from to : Step) (e : Ending) (f : Extent) : Type 0 where
   pub says : (l : ToLevel) → Leads (atCompass l) t from to (atEnd (reportOf l e f))

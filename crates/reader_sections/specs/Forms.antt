@@ -9,7 +9,7 @@ use Rattle.message.specs.declared.FirstLine.{FirstLine}
 use Rattle.grammar.specs.Records.{testOf, cancellationOf}
 use Rattle.grammar.specs.States.{ToArea}
 use Rattle.grammar.specs.States.State.{atTest, atTestText, atCancelSigmet, atEnd}
-use Rattle.reader_sections.specs.Leading.{Stands, Leads}
+use Rattle.reader_sections.specs.Steps.{Stands, Leads}
 use Rattle.reader_sections.specs.declared.steps.Step.{Step}
 
 -- `PLEASE DISREGARD`, the end of the second text and of the third

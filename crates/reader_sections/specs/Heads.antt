@@ -8,7 +8,7 @@ use Rattle.message.specs.declared.Area.{Area}
 use Rattle.message.specs.declared.FirstLine.{FirstLine}
 use Rattle.message.specs.declared.Heading.{Heading}
 use Rattle.grammar.specs.States.State.{atDesignator, atCorrection, atUnit, atIndicator, atForm}
-use Rattle.reader_sections.specs.Leading.{Stands, Leads}
+use Rattle.reader_sections.specs.Steps.{Stands, Leads}
 use Rattle.reader_sections.specs.declared.steps.Step.{Step}
 
 -- "then perhaps a correction": 0 where there is none

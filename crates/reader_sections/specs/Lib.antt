@@ -1,5 +1,4 @@
-pub mod Going
-pub mod Leading
+pub mod Steps
 pub mod Heads
 pub mod Naming
 pub mod Forms

@@ -12,7 +12,7 @@ use Rattle.grammar.specs.Numbers.{locationPart}
 use Rattle.grammar.specs.States.{Site, Placing}
 use Rattle.grammar.specs.States.State.{atPlace}
 use Rattle.grammar.specs.Steps.{closingAt, after}
-use Rattle.reader_sections.specs.Leading.{Stands, Leads}
+use Rattle.reader_sections.specs.Steps.{Stands, Leads}
 use Rattle.reader_sections.specs.declared.steps.Step.{Step}
 
 -- the letter of a word that is one of two letters, 0 of any other

@@ -16,8 +16,7 @@ use Rattle.grammar.specs.Records.{nameOf}
 use Rattle.grammar.specs.States.{State, Move}
 use Rattle.grammar.specs.States.Move.{goes}
 use Rattle.grammar.specs.Steps.{goesIf, grown, begun, goneOn, step}
-use Rattle.reader_sections.specs.Going.{wordFrom}
-use Rattle.reader_sections.specs.Leading.{Stands, Leads}
+use Rattle.reader_sections.specs.Steps.{wordFrom, Stands, Leads}
 use Rattle.reader_sections.specs.declared.steps.Step.{Step}
 
 -- the word at a step

@@ -18,7 +18,7 @@ use Rattle.grammar.specs.States.{Site}
 use Rattle.grammar.specs.States.Placing.{atLatitude, atLongitude, atDash}
 use Rattle.grammar.specs.States.State.{atPlace}
 use Rattle.grammar.specs.Steps.{after}
-use Rattle.reader_sections.specs.Leading.{Stands, Leads, Takes}
+use Rattle.reader_sections.specs.Steps.{Stands, Leads, Takes}
 use Rattle.reader_sections.specs.declared.steps.Step.{Step}
 
 -- the points so far: that many, the first of them at hand

@@ -19,9 +19,8 @@ use Rattle.grammar.specs.States.Placing.{atLocation}
 use Rattle.grammar.specs.States.Site.{inReport}
 use Rattle.grammar.specs.States.State.{atForm, atObservation, atObserved, atPlace, atLevel, atTop, atEnding}
 use Rattle.grammar.specs.Steps.{kindOf, flightOf}
-use Rattle.reader_sections.specs.Leading.{Stands, Leads, Finishes}
+use Rattle.reader_sections.specs.Steps.{Stands, Leads, Finishes, wordFrom}
 use Rattle.reader_sections.specs.declared.steps.Step.{Step}
-use Rattle.reader_sections.specs.Going.{wordFrom}
 
 -- after `OBS` or `FCST`
 pub record ObservedSays (word : ℕ) (t : List ℕ) (from to : Step) (o : Observation) : Type 0 where

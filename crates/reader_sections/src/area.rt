@@ -1,6 +1,6 @@
 // Area: four letters, a name, then the closing word.
 ghost use Rattle.reader_sections.specs.Heads.{AreaSays};
-ghost use Rattle.reader_sections.specs.Leading.{Stands};
+ghost use Rattle.reader_sections.specs.Steps.{Stands};
 use crate::name::read_name;
 use crate::parts;
 use crate::required_words::closing_at;

@@ -1,6 +1,6 @@
 // After the area: a test, a cancellation or a report, and the `=`.
 ghost use Rattle.reader_sections.specs.Bodies.{TestBodySays, LongTestBodySays, CancellationBodySays, BodySays};
-ghost use Rattle.reader_sections.specs.Leading.{Stands};
+ghost use Rattle.reader_sections.specs.Steps.{Stands};
 use crate::cancellation::read_cancellation;
 use crate::report::read_report;
 use crate::steps::Step;

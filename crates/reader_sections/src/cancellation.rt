@@ -3,7 +3,7 @@ ghost use mathlib.Core.Path.{_≡_};
 ghost use Rattle.groups.specs.Groups.{periodOf};
 ghost use Rattle.grammar.specs.Steps.{cancels as cancelsOf};
 ghost use Rattle.reader_sections.specs.Forms.{CancellationSays};
-ghost use Rattle.reader_sections.specs.Leading.{Stands, Takes};
+ghost use Rattle.reader_sections.specs.Steps.{Stands, Takes};
 use crate::parts;
 use crate::required_words::PeriodRead;
 use crate::required_words::sequence_at;

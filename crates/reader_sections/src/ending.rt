@@ -1,7 +1,7 @@
 // Ending: MOV, a compass point and a speed, or STNR, then the intensity; or, in WS only, the intensity and a forecast.
 ghost use Rattle.groups.specs.Groups.{timeOf};
 ghost use Rattle.reader_sections.specs.Endings.{MovingSays, forecastTime, ForecastSays, EndingSays};
-ghost use Rattle.reader_sections.specs.Leading.{Stands, Takes};
+ghost use Rattle.reader_sections.specs.Steps.{Stands, Takes};
 use crate::location::read_location;
 use crate::parts;
 use crate::required_words::TimeRead;

@@ -1,6 +1,6 @@
 // First line: four letters (unit), SIGMET, sequence, VALID, group/group, four letters and a hyphen (office).
 ghost use Rattle.reader_sections.specs.Heads.{LineSays};
-ghost use Rattle.reader_sections.specs.Leading.{Stands};
+ghost use Rattle.reader_sections.specs.Steps.{Stands};
 use crate::parts;
 use crate::required_words::letters_at;
 use crate::required_words::office_at;

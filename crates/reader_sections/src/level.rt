@@ -2,7 +2,7 @@
 ghost use mathlib.Core.Path.{_≡_};
 ghost use Rattle.levels.specs.Levels.{levelOf, goodLevelWord, flight};
 ghost use Rattle.grammar.specs.Steps.{flightOf};
-ghost use Rattle.reader_sections.specs.Leading.{Stands, Takes};
+ghost use Rattle.reader_sections.specs.Steps.{Stands, Takes};
 ghost use Rattle.reader_sections.specs.Reports.{flightIn, TopSays, LevelSays};
 use crate::parts;
 use crate::steps::Step;

@@ -4,7 +4,7 @@ ghost use Prim.Native.Nat.{_<_};
 ghost use Rattle.grammar.specs.Records.{bounded as boundedBy};
 ghost use Rattle.grammar.specs.States.Placing.{atLocation, atLatitudeOf, atAnd, atLongitudeOf, atEntire};
 ghost use Rattle.reader_sections.specs.Locations.{SideSays, LocatedSays, LocatedInSays};
-ghost use Rattle.reader_sections.specs.Leading.{Stands};
+ghost use Rattle.reader_sections.specs.Steps.{Stands};
 use crate::outline::read_outline;
 use crate::required_words::latitude_at;
 use crate::required_words::longitude_at;

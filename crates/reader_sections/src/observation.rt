@@ -1,6 +1,6 @@
 // Observation: OBS or FCST, perhaps AT GGggZ.
 ghost use Rattle.reader_sections.specs.Reports.{ObservedSays, ObservationSays};
-ghost use Rattle.reader_sections.specs.Leading.{Stands};
+ghost use Rattle.reader_sections.specs.Steps.{Stands};
 use crate::parts;
 use crate::required_words::time_at;
 use crate::steps::Step;
@@ -8,6 +8,8 @@ use crate::steps::code_of;
 use crate::steps::judged;
 use crate::steps::perhaps_at;
 use crate::steps::step_at;
+use message::FORECAST;
+use message::OBSERVED;
 use message::Observation;
 use message::UNTIMED;
 
@@ -52,8 +54,8 @@ pub(crate) fn read_observation(text: &[u8], from: Step) -> ObservationRead
 {
     let code = code_of(text, from);
     if code == vocabulary::OBS {
-        return read_observed(text, step_at(text, from.end), 1);
+        return read_observed(text, step_at(text, from.end), OBSERVED);
     }
     let forecast = judged(text, from, code == vocabulary::FCST, parts::OBSERVATION);
-    read_observed(text, forecast, 2)
+    read_observed(text, forecast, FORECAST)
 }

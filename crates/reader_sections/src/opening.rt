@@ -1,6 +1,6 @@
 // What every message begins with: heading, first line and area.
 ghost use Rattle.reader_sections.specs.Heads.{OpeningSays};
-ghost use Rattle.reader_sections.specs.Leading.{Stands};
+ghost use Rattle.reader_sections.specs.Steps.{Stands};
 use crate::area::read_area;
 use crate::first_line::read_line;
 use crate::heading::read_heading;

@@ -4,7 +4,7 @@ ghost use mathlib.Core.List.{[]};
 ghost use Rattle.grammar.specs.States.Placing.{atLatitude};
 ghost use Rattle.reader_sections.specs.Locations.{LocatedSays};
 ghost use Rattle.reader_sections.specs.Outlines.{FollowsSays, ClosesSays, LatitudeSays, LongitudeSays, PointSays};
-ghost use Rattle.reader_sections.specs.Leading.{Stands};
+ghost use Rattle.reader_sections.specs.Steps.{Stands};
 use crate::location::LocationRead;
 use crate::required_words::CoordinateRead;
 use crate::steps::Step;

@@ -2,7 +2,7 @@
 ghost use Prim.Native.Nat.{_≤_};
 ghost use Rattle.grammar.specs.States.State.{atStorm, atSevere, atHeavy, atRadioactive};
 ghost use Rattle.reader_sections.specs.Phenomena.{WeatherFrom, WeatherSays};
-ghost use Rattle.reader_sections.specs.Leading.{Stands};
+ghost use Rattle.reader_sections.specs.Steps.{Stands};
 use crate::parts;
 use crate::steps::Step;
 use crate::steps::code_of;
@@ -11,6 +11,13 @@ use crate::steps::judged;
 use crate::steps::perhaps_at;
 use crate::steps::step_at;
 use figures::find;
+use message::HVY_DS;
+use message::HVY_SS;
+use message::RDOACT_CLD;
+use message::SEV_ICE;
+use message::SEV_ICE_FZRA;
+use message::SEV_MTW;
+use message::SEV_TURB;
 
 // The first words of a storm, in the paper's order.
 const STORMS: [u64; 4] = [
@@ -25,7 +32,7 @@ pub(crate) struct WeatherRead {
     pub phenomenon: u8,
 }
 
-// TS or TSGR, after the storm's first word.
+// TS or TSGR, after the first word of a storm: 1 OBSC to 4 SQL.
 fn read_storm(text: &[u8], from: Step, storm: u8) -> WeatherRead
     requires { ⌜ (Stands (now text) from) × ((1 ≤ storm) × (storm ≤ 4)) ⌝ }
     ensures { λ r. ⌜ WeatherFrom (λ o. atStorm o storm) (now (text .entry)) from (r .step) (r .phenomenon) ⌝ }
@@ -55,14 +62,14 @@ fn read_severe(text: &[u8], from: Step) -> WeatherRead
         let step = step_at(text, from.end);
         return WeatherRead {
             step,
-            phenomenon: 9,
+            phenomenon: SEV_TURB,
         };
     }
     if code == vocabulary::MTW {
         let step = step_at(text, from.end);
         return WeatherRead {
             step,
-            phenomenon: 12,
+            phenomenon: SEV_MTW,
         };
     }
     let ice = judged(text, from, code == vocabulary::ICE, parts::FORM);
@@ -71,12 +78,12 @@ fn read_severe(text: &[u8], from: Step) -> WeatherRead
     if rain.found {
         return WeatherRead {
             step,
-            phenomenon: 11,
+            phenomenon: SEV_ICE_FZRA,
         };
     }
     WeatherRead {
         step,
-        phenomenon: 10,
+        phenomenon: SEV_ICE,
     }
 }
 
@@ -90,13 +97,13 @@ fn read_heavy(text: &[u8], from: Step) -> WeatherRead
         let step = step_at(text, from.end);
         return WeatherRead {
             step,
-            phenomenon: 13,
+            phenomenon: HVY_DS,
         };
     }
     let step = judged(text, from, code == vocabulary::SS, parts::FORM);
     WeatherRead {
         step,
-        phenomenon: 14,
+        phenomenon: HVY_SS,
     }
 }
 
@@ -108,7 +115,7 @@ fn read_radioactive(text: &[u8], from: Step) -> WeatherRead
     let step = fixed_at(text, from, vocabulary::CLD, parts::FORM);
     WeatherRead {
         step,
-        phenomenon: 15,
+        phenomenon: RDOACT_CLD,
     }
 }
 

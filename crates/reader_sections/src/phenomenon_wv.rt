@@ -1,5 +1,5 @@
 // Phenomenon of a WV: VA CLD, or VA ERUPTION, perhaps MT and a name, PSN, a point, VA CLD.
-ghost use Rattle.reader_sections.specs.Leading.{Stands};
+ghost use Rattle.reader_sections.specs.Steps.{Stands};
 ghost use Rattle.reader_sections.specs.Phenomena.{MountainSays, EruptionSays, AshSays};
 use crate::name::NameRead;
 use crate::name::read_name;

@@ -1,5 +1,5 @@
 // A report: phenomenon, observation, location, level, then the ending and the `=`.
-ghost use Rattle.reader_sections.specs.Leading.{Stands};
+ghost use Rattle.reader_sections.specs.Steps.{Stands};
 ghost use Rattle.reader_sections.specs.Reports.{PhenomenonSays, ReportSays};
 use crate::ending::read_ending;
 use crate::level::read_level;

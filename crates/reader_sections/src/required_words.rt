@@ -8,7 +8,7 @@ ghost use Rattle.headings.specs.Sequences.{sequenceOf, goodSequence};
 ghost use Rattle.names.specs.Names.{closingOf, goodClosing};
 ghost use Rattle.motions.specs.Motions.{compassOf, goodCompass, intensityOf, goodIntensity};
 ghost use Rattle.motions.specs.Speeds.{speedOf, goodSpeed};
-ghost use Rattle.reader_sections.specs.Leading.{Stands, Takes};
+ghost use Rattle.reader_sections.specs.Steps.{Stands, Takes};
 use crate::steps::Step;
 use crate::steps::judged;
 use coordinates::Coordinate;
@@ -16,6 +16,7 @@ use coordinates::latitude;
 use coordinates::longitude;
 use figures::letters;
 use groups::Group;
+use groups::NO_HOUR;
 use groups::Period;
 use groups::Time;
 use groups::group_word;
@@ -26,6 +27,7 @@ use headings::Sequence;
 use headings::designator_word;
 use headings::office_word;
 use headings::sequence_word;
+use motions::NO_COMPASS;
 use motions::Speed;
 use motions::compass_word;
 use motions::intensity_word;
@@ -199,7 +201,7 @@ pub(crate) fn time_at(text: &[u8], from: Step, refusal: u8) -> TimeRead
     let start = from.place;
     let end = from.end;
     let time = time_word(&text[start..end]);
-    let step = judged(text, from, time.hour != 24, refusal);
+    let step = judged(text, from, time.hour != NO_HOUR, refusal);
     TimeRead { step, time }
 }
 
@@ -210,7 +212,7 @@ pub(crate) fn compass_at(text: &[u8], from: Step, refusal: u8) -> CompassRead
     let start = from.place;
     let end = from.end;
     let compass = compass_word(&text[start..end]);
-    let step = judged(text, from, compass != 16, refusal);
+    let step = judged(text, from, compass != NO_COMPASS, refusal);
     CompassRead { step, compass }
 }
 

@@ -1,6 +1,6 @@
 // A test: TEST, or TEST SIGMET PLEASE DISREGARD, or TEST. THIS IS A TEST SIGMET, PLEASE DISREGARD.
 ghost use Rattle.reader_sections.specs.Forms.{PleaseSays, TestSays, LongTestSays};
-ghost use Rattle.reader_sections.specs.Leading.{Stands};
+ghost use Rattle.reader_sections.specs.Steps.{Stands};
 use crate::parts;
 use crate::steps::Step;
 use crate::steps::fixed_at;

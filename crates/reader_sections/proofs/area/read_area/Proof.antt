@@ -13,7 +13,7 @@ use Rattle.message.specs.declared.Name.{Name}
 use Rattle.grammar.specs.States.State.{atIndicator, atName, atMoreName, atForm}
 use Rattle.grammar.specs.Steps.{step}
 use Rattle.reader_sections.specs.Heads.{AreaSays}
-use Rattle.reader_sections.specs.Leading.{Takes}
+use Rattle.reader_sections.specs.Steps.{Takes}
 use Rattle.reader_sections.specs.Naming.{NameSays}
 use Rattle.reader_sections.proofs.Leads.{then}
 use Rattle.reader_sections.proofs.NameText.{areaClosed, area-takes, name-closed}

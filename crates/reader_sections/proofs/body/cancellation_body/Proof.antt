@@ -9,7 +9,7 @@ use Rattle.headings.specs.declared.Sequence.{Sequence}
 use Rattle.groups.specs.declared.Group.{Group}
 use Rattle.message.specs.declared.Form.the-variants.{Cancellation}
 use Rattle.reader_sections.specs.Bodies.{CancellationBodySays}
-use Rattle.reader_sections.specs.Leading.{Closes}
+use Rattle.reader_sections.specs.Steps.{Closes}
 use Rattle.reader_sections.specs.declared.steps.Step.{Step}
 use Rattle.reader_sections.proofs.Leads.{at-last}
 use Rattle.reader_sections.proofs.body.cancellation_body.Statement.{statement}

@@ -6,7 +6,7 @@ use Rattle.reader_sections.specs.Forms.{LongTestSays}
 use Rattle.message.specs.Reports.{noReport}
 use Rattle.message.specs.declared.Form.the-variants.{Test}
 use Rattle.reader_sections.specs.Bodies.{LongTestBodySays}
-use Rattle.reader_sections.specs.Leading.{Closes}
+use Rattle.reader_sections.specs.Steps.{Closes}
 use Rattle.reader_sections.specs.declared.steps.Step.{Step}
 use Rattle.reader_sections.proofs.Leads.{at-last}
 use Rattle.reader_sections.proofs.body.long_test_body.Statement.{statement}

@@ -14,7 +14,7 @@ use Rattle.grammar.specs.Steps.{stepForm, step}
 use Rattle.vocabulary.proofs.FixedWords.{fixed-test, fixed-test-stop, fixed-cnl}
 use Rattle.reader_sections.specs.Bodies.{TestBodySays, LongTestBodySays, CancellationBodySays, BodySays}
 use Rattle.reader_sections.specs.Reports.{ReportSays}
-use Rattle.reader_sections.specs.Leading.{Stands, Before}
+use Rattle.reader_sections.specs.Steps.{Stands, Before}
 use Rattle.reader_sections.specs.declared.steps.Step.{Step}
 use Rattle.reader_sections.proofs.FormLaws.{codeAt, takes-code}
 use Rattle.reader_sections.proofs.Leads.{at-last, code-no}

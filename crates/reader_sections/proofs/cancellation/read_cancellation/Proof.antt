@@ -13,7 +13,7 @@ use Rattle.grammar.specs.States.State.{atCancelSigmet, atCancelSequence, atCanc
 use Rattle.grammar.specs.Steps.{step, cancels}
 use Rattle.vocabulary.proofs.FixedWords.{fixed-sigmet}
 use Rattle.reader_sections.specs.Forms.{CancellationSays}
-use Rattle.reader_sections.specs.Leading.{Takes, TakesFixed}
+use Rattle.reader_sections.specs.Steps.{Takes, TakesFixed}
 use Rattle.reader_sections.specs.declared.steps.Step.{Step}
 use Rattle.reader_sections.proofs.Leads.{then}
 use Rattle.reader_sections.proofs.cancellation.read_cancellation.Statement.{statement}

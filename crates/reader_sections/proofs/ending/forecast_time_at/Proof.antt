@@ -11,7 +11,7 @@ use Rattle.groups.specs.Groups.{timeOf, goodTime}
 use Rattle.groups.specs.declared.Time.{Time}
 use Rattle.grammar.specs.Steps.{sameTime}
 use Rattle.reader_sections.specs.Endings.{forecastTime}
-use Rattle.reader_sections.specs.Leading.{Stands, Judged, Takes}
+use Rattle.reader_sections.specs.Steps.{Stands, Judged, Takes}
 use Rattle.reader_sections.proofs.Leads.{takes}
 use Rattle.reader_sections.proofs.Tells.{forecast-none}
 use Rattle.reader_sections.proofs.ending.forecast_time_at.Statement.{statement}

@@ -24,7 +24,7 @@ use Rattle.grammar.specs.States.State.{atEnding, atCompass, atStationary, atEnd
 use Rattle.grammar.specs.Steps.{kindOf, stepEnding, step}
 use Rattle.vocabulary.proofs.FixedWords.{fixed-mov, fixed-stnr}
 use Rattle.reader_sections.specs.Endings.{MovingSays, ForecastSays, EndingSays}
-use Rattle.reader_sections.specs.Leading.{Stands, Before, Judged, Takes}
+use Rattle.reader_sections.specs.Steps.{Stands, Before, Judged, Takes}
 use Rattle.reader_sections.proofs.FirstWords.{both-these, not-both}
 use Rattle.reader_sections.proofs.Leads.{then, goes-code, code-yes, code-no, takes-fixed}
 use Rattle.reader_sections.proofs.ending.read_ending.Statement.{statement}

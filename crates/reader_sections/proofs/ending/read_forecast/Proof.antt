@@ -15,7 +15,7 @@ use Rattle.grammar.specs.States.State.{atEnding, atForecast, atForecastAt, atFo
 use Rattle.grammar.specs.Steps.{step}
 use Rattle.vocabulary.proofs.FixedWords.{fixed-fcst, fixed-at}
 use Rattle.reader_sections.specs.Endings.{forecastTime, ForecastSays}
-use Rattle.reader_sections.specs.Leading.{Takes, TakesFixed}
+use Rattle.reader_sections.specs.Steps.{Takes, TakesFixed}
 use Rattle.reader_sections.specs.Locations.{LocatedInSays}
 use Rattle.reader_sections.proofs.FirstWords.{time-judged}
 use Rattle.reader_sections.proofs.Leads.{then}

@@ -13,7 +13,7 @@ use Rattle.grammar.specs.Records.{reportOf}
 use Rattle.grammar.specs.States.State.{atCompass, atSpeed, atMovingIntensity, atEnd}
 use Rattle.grammar.specs.Steps.{step}
 use Rattle.reader_sections.specs.Endings.{MovingSays}
-use Rattle.reader_sections.specs.Leading.{Takes}
+use Rattle.reader_sections.specs.Steps.{Takes}
 use Rattle.reader_sections.proofs.Leads.{then}
 use Rattle.reader_sections.proofs.ending.read_moving.Statement.{statement}
 use Rattle.reader_sections.proofs.ending.read_moving.Tie as tie

@@ -13,7 +13,7 @@ use Rattle.grammar.specs.States.State.{atUnit, atSigmet, atSequence, atValid, a
 use Rattle.grammar.specs.Steps.{step}
 use Rattle.vocabulary.proofs.FixedWords.{fixed-sigmet, fixed-valid}
 use Rattle.reader_sections.specs.Heads.{LineSays}
-use Rattle.reader_sections.specs.Leading.{Takes, TakesFixed}
+use Rattle.reader_sections.specs.Steps.{Takes, TakesFixed}
 use Rattle.reader_sections.specs.declared.steps.Step.{Step}
 use Rattle.reader_sections.proofs.Leads.{then}
 use Rattle.reader_sections.proofs.first_line.read_line.Statement.{statement}

@@ -12,7 +12,7 @@ use Rattle.headings.specs.declared.Designator.{Designator}
 use Rattle.grammar.specs.States.State.{atDesignator, atCentre, atSent, atCorrection}
 use Rattle.grammar.specs.Steps.{step}
 use Rattle.reader_sections.specs.Heads.{CorrectionSays, HeadingSays}
-use Rattle.reader_sections.specs.Leading.{Takes}
+use Rattle.reader_sections.specs.Steps.{Takes}
 use Rattle.reader_sections.proofs.Leads.{then}
 use Rattle.reader_sections.proofs.heading.read_heading.Statement.{statement}
 use Rattle.reader_sections.proofs.heading.read_heading.Tie as tie

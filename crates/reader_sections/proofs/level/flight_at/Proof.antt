@@ -11,7 +11,7 @@ use Rattle.lists.specs.Lists.{part}
 use Rattle.levels.specs.Levels.{levelOf, flight}
 use Rattle.levels.specs.declared.Level.{Level}
 use Rattle.grammar.specs.Steps.{flightOf}
-use Rattle.reader_sections.specs.Leading.{Stands, Judged, Takes}
+use Rattle.reader_sections.specs.Steps.{Stands, Judged, Takes}
 use Rattle.reader_sections.specs.Reports.{flightIn}
 use Rattle.reader_sections.proofs.FirstWords.{flight-none, flight-good}
 use Rattle.reader_sections.proofs.Leads.{takes}

@@ -9,7 +9,7 @@ use mathlib.Core.Path.{ap, _∙_}
 use Rattle.lists.specs.Lists.{part}
 use Rattle.levels.specs.Levels.{levelOf, goodLevelWord, emptyLevel}
 use Rattle.levels.specs.declared.Level.{Level}
-use Rattle.reader_sections.specs.Leading.{Stands, Judged, Takes}
+use Rattle.reader_sections.specs.Steps.{Stands, Judged, Takes}
 use Rattle.reader_sections.proofs.FirstWords.{level-none, level-good}
 use Rattle.reader_sections.proofs.Leads.{takes}
 use Rattle.reader_sections.proofs.level.level_at.Statement.{statement}

@@ -10,7 +10,7 @@ use Rattle.levels.specs.declared.Level.the-variants.{TopFlight, TopAboveFlight}
 use Rattle.grammar.specs.States.State.{atTop, atTopAbove}
 use Rattle.grammar.specs.Steps.{levelled, step}
 use Rattle.vocabulary.proofs.FixedWords.{fixed-abv}
-use Rattle.reader_sections.specs.Leading.{Takes, MayTake}
+use Rattle.reader_sections.specs.Steps.{Takes, MayTake}
 use Rattle.reader_sections.specs.Reports.{flightIn, TopSays}
 use Rattle.reader_sections.proofs.Leads.{then}
 use Rattle.reader_sections.proofs.level.read_top.Statement.{statement}

@@ -20,7 +20,7 @@ use Rattle.grammar.specs.States.Placing.{atAnd, atSecondBound, atLongitudeOf}
 use Rattle.grammar.specs.States.State.{atPlace}
 use Rattle.grammar.specs.Steps.{after}
 use Rattle.vocabulary.proofs.FixedWords.{fixed-and}
-use Rattle.reader_sections.specs.Leading.{Judged, MayTake}
+use Rattle.reader_sections.specs.Steps.{Judged, MayTake}
 use Rattle.reader_sections.specs.Locations.{SideSays, LocatedSays}
 use Rattle.reader_sections.proofs.Leads.{then}
 use Rattle.reader_sections.proofs.Sides.{following-number, on-step, past-step, takes-on, takes-side, side-if}

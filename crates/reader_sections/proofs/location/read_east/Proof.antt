@@ -10,7 +10,7 @@ use Rattle.message.specs.declared.Extent.{Extent}
 use Rattle.message.specs.declared.Side.{Side}
 use Rattle.grammar.specs.Records.{bounded}
 use Rattle.grammar.specs.States.Placing.{atLongitudeOf}
-use Rattle.reader_sections.specs.Leading.{Takes, TakesFixed}
+use Rattle.reader_sections.specs.Steps.{Takes, TakesFixed}
 use Rattle.reader_sections.specs.Locations.{LocatedSays}
 use Rattle.reader_sections.proofs.Sides.{longitude-bound}
 use Rattle.reader_sections.proofs.location.read_east.Statement.{statement}

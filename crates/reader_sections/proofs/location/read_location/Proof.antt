@@ -15,8 +15,7 @@ use Rattle.grammar.specs.Placing.{sideWord, locating, placeStep}
 use Rattle.grammar.specs.States.Placing.{atLocation, atLatitudeOf, atLongitudeOf, atEntire, atLatitude}
 use Rattle.grammar.specs.States.State.{atPlace}
 use Rattle.vocabulary.proofs.FixedWords.{fixed-entire, fixed-wi}
-use Rattle.reader_sections.specs.Going.{wordFrom}
-use Rattle.reader_sections.specs.Leading.{Stands, Before, Judged}
+use Rattle.reader_sections.specs.Steps.{wordFrom, Stands, Before, Judged}
 use Rattle.reader_sections.specs.Locations.{SideSays, LocatedSays, LocatedInSays}
 use Rattle.reader_sections.proofs.Leads.{then, goes-code, code-going, code-yes, code-no, takes-fixed}
 use Rattle.reader_sections.proofs.Sides.{on-step, fixed-on, side-going, side-no, side-on}

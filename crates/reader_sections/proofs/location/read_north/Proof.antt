@@ -7,7 +7,7 @@ use Rattle.coordinates.specs.Coordinates.{northSouth, coordinateOf, goodCoordin
 use Rattle.coordinates.specs.declared.Coordinate.{Coordinate}
 use Rattle.message.specs.declared.Extent.{Extent}
 use Rattle.grammar.specs.States.Placing.{atLatitudeOf, atAnd}
-use Rattle.reader_sections.specs.Leading.{Takes, TakesFixed}
+use Rattle.reader_sections.specs.Steps.{Takes, TakesFixed}
 use Rattle.reader_sections.specs.Locations.{LocatedSays}
 use Rattle.reader_sections.proofs.Leads.{then}
 use Rattle.reader_sections.proofs.Sides.{latitude-bound}

@@ -9,7 +9,7 @@ use Rattle.grammar.specs.States.State.{atObservation, atObserved}
 use Rattle.grammar.specs.Steps.{step}
 use Rattle.vocabulary.proofs.FixedWords.{fixed-obs, fixed-fcst}
 use Rattle.reader_sections.specs.Reports.{ObservedSays, ObservationSays}
-use Rattle.reader_sections.specs.Leading.{Stands, Before, Judged}
+use Rattle.reader_sections.specs.Steps.{Stands, Before, Judged}
 use Rattle.reader_sections.specs.declared.steps.Step.{Step}
 use Rattle.reader_sections.proofs.FormLaws.{codeAt, takes-code}
 use Rattle.reader_sections.proofs.Leads.{then, code-no, takes-fixed}

@@ -14,7 +14,7 @@ use Rattle.grammar.specs.States.State.{atObserved, atObservedTime, atPlace}
 use Rattle.grammar.specs.Steps.{step}
 use Rattle.vocabulary.proofs.FixedWords.{fixed-at}
 use Rattle.reader_sections.specs.Reports.{ObservedSays}
-use Rattle.reader_sections.specs.Leading.{Takes, MayTake}
+use Rattle.reader_sections.specs.Steps.{Takes, MayTake}
 use Rattle.reader_sections.specs.declared.steps.Step.{Step}
 use Rattle.reader_sections.proofs.Leads.{then}
 use Rattle.reader_sections.proofs.observation.read_observed.Statement.{statement}

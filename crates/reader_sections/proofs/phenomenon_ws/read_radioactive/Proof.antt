@@ -7,7 +7,7 @@ use Rattle.grammar.specs.States.State.{atRadioactive}
 use Rattle.grammar.specs.Steps.{step}
 use Rattle.vocabulary.proofs.FixedWords.{fixed-cld}
 use Rattle.reader_sections.specs.Phenomena.{WeatherFrom}
-use Rattle.reader_sections.specs.Leading.{TakesFixed}
+use Rattle.reader_sections.specs.Steps.{TakesFixed}
 use Rattle.reader_sections.specs.declared.steps.Step.{Step}
 use Rattle.reader_sections.proofs.phenomenon_ws.read_radioactive.Statement.{statement}
 use Rattle.reader_sections.proofs.phenomenon_ws.read_radioactive.Tie as tie

@@ -11,7 +11,7 @@ use Rattle.grammar.specs.States.{ToArea}
 use Rattle.grammar.specs.Steps.{step}
 use Rattle.vocabulary.proofs.FixedWords.{fixed-turb, fixed-mtw, fixed-ice, fixed-freezing-rain}
 use Rattle.reader_sections.specs.Phenomena.{WeatherFrom}
-use Rattle.reader_sections.specs.Leading.{Stands, Before, Judged, MayTake, Leads}
+use Rattle.reader_sections.specs.Steps.{Stands, Before, Judged, MayTake, Leads}
 use Rattle.reader_sections.specs.declared.steps.Step.{Step}
 use Rattle.reader_sections.proofs.FormLaws.{codeAt, takes-code}
 use Rattle.reader_sections.proofs.Leads.{then, code-no, takes-fixed}

@@ -8,7 +8,7 @@ use Rattle.grammar.specs.States.State.{atStorm}
 use Rattle.grammar.specs.Steps.{step}
 use Rattle.vocabulary.proofs.FixedWords.{fixed-ts, fixed-tsgr}
 use Rattle.reader_sections.specs.Phenomena.{WeatherFrom}
-use Rattle.reader_sections.specs.Leading.{Stands, Before, Judged}
+use Rattle.reader_sections.specs.Steps.{Stands, Before, Judged}
 use Rattle.reader_sections.specs.declared.steps.Step.{Step}
 use Rattle.reader_sections.proofs.FormLaws.{codeAt, takes-code}
 use Rattle.reader_sections.proofs.Leads.{code-no, takes-fixed}

@@ -11,7 +11,7 @@ use Rattle.grammar.specs.States.State.{atForm, atStorm, atSevere, atHeavy, atRa
 use Rattle.grammar.specs.Steps.{stormWords}
 use Rattle.vocabulary.proofs.FixedWords.{fixed-sev, fixed-hvy, fixed-rdoact}
 use Rattle.reader_sections.specs.Phenomena.{WeatherFrom, WeatherSays}
-use Rattle.reader_sections.specs.Leading.{Stands, Before, Judged}
+use Rattle.reader_sections.specs.Steps.{Stands, Before, Judged}
 use Rattle.reader_sections.specs.declared.steps.Step.{Step}
 use Rattle.reader_sections.proofs.FormLaws.{codeAt, takes-code}
 use Rattle.reader_sections.proofs.Leads.{then, code-no, takes-fixed}

@@ -11,7 +11,7 @@ use Rattle.grammar.specs.States.State.{atForm, atAsh, atEruption}
 use Rattle.grammar.specs.Steps.{step}
 use Rattle.vocabulary.proofs.FixedWords.{fixed-va, fixed-cld}
 use Rattle.reader_sections.specs.Phenomena.{EruptionSays, AshSays}
-use Rattle.reader_sections.specs.Leading.{TakesFixed, TakesLong, MayTake}
+use Rattle.reader_sections.specs.Steps.{TakesFixed, TakesLong, MayTake}
 use Rattle.reader_sections.specs.declared.steps.Step.{Step}
 use Rattle.reader_sections.proofs.Leads.{then}
 use Rattle.reader_sections.proofs.phenomenon_wv.read_ash.Statement.{statement}

@@ -10,7 +10,7 @@ use Rattle.grammar.specs.States.State.{atPosition, atPositionLongitude, atVolca
 use Rattle.grammar.specs.Steps.{step}
 use Rattle.vocabulary.proofs.FixedWords.{fixed-va, fixed-cld}
 use Rattle.reader_sections.specs.Phenomena.{MountainSays, EruptionSays}
-use Rattle.reader_sections.specs.Leading.{Takes, TakesFixed}
+use Rattle.reader_sections.specs.Steps.{Takes, TakesFixed}
 use Rattle.reader_sections.specs.declared.steps.Step.{Step}
 use Rattle.reader_sections.proofs.Leads.{then}
 use Rattle.reader_sections.proofs.phenomenon_wv.read_eruption.Statement.{statement}

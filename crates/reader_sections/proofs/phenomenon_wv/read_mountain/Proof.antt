@@ -12,7 +12,7 @@ use Rattle.grammar.specs.Steps.{step}
 use Rattle.vocabulary.proofs.FixedWords.{fixed-mt, fixed-psn}
 use Rattle.reader_sections.specs.Naming.{NameSays}
 use Rattle.reader_sections.specs.Phenomena.{MountainSays}
-use Rattle.reader_sections.specs.Leading.{TakesFixed, MayTake}
+use Rattle.reader_sections.specs.Steps.{TakesFixed, MayTake}
 use Rattle.reader_sections.specs.declared.steps.Step.{Step}
 use Rattle.reader_sections.proofs.Leads.{then}
 use Rattle.reader_sections.proofs.NameText.{mountainClosed, mountain-takes, name-closed}

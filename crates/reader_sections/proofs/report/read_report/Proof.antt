@@ -13,7 +13,7 @@ use Rattle.message.specs.declared.Volcano.{Volcano}
 use Rattle.grammar.specs.States.Placing.{atLocation}
 use Rattle.grammar.specs.States.Site.{inReport}
 use Rattle.reader_sections.specs.Endings.{EndingSays}
-use Rattle.reader_sections.specs.Leading.{Closes}
+use Rattle.reader_sections.specs.Steps.{Closes}
 use Rattle.reader_sections.specs.Locations.{LocatedInSays}
 use Rattle.reader_sections.specs.Reports.{PhenomenonSays, ObservationSays, LevelSays, ReportSays}
 use Rattle.reader_sections.proofs.Leads.{then, at-last}

@@ -1,6 +1,6 @@
 -- `span_at` meets its contract: the word that `word_at` finds lies within the text. Assumes nothing.
 use borrow.Author.Needs.{needs}
-use Rattle.reader_sections.proofs.Going.{word-at-within}
+use Rattle.reader_sections.proofs.RunsAt.{word-at-within}
 use Rattle.reader_sections.proofs.steps.span_at.Statement.{statement}
 use Rattle.reader_sections.proofs.steps.span_at.Tie as tie
 

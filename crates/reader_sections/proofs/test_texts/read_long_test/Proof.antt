@@ -8,7 +8,7 @@ use Rattle.grammar.specs.States.State.{atTestText}
 use Rattle.grammar.specs.Steps.{step}
 use Rattle.vocabulary.proofs.FixedWords.{fixed-test, fixed-this, fixed-is, fixed-a, fixed-sigmet-comma}
 use Rattle.reader_sections.specs.Forms.{PleaseSays, LongTestSays}
-use Rattle.reader_sections.specs.Leading.{TakesFixed}
+use Rattle.reader_sections.specs.Steps.{TakesFixed}
 use Rattle.reader_sections.specs.declared.steps.Step.{Step}
 use Rattle.reader_sections.proofs.Leads.{then}
 use Rattle.reader_sections.proofs.test_texts.read_long_test.Statement.{statement}

@@ -10,7 +10,7 @@ use Rattle.grammar.specs.States.State.{atTestText, atEnd}
 use Rattle.grammar.specs.Steps.{step}
 use Rattle.vocabulary.proofs.FixedWords.{fixed-please}
 use Rattle.reader_sections.specs.Forms.{PleaseSays}
-use Rattle.reader_sections.specs.Leading.{TakesFixed, TakesLong}
+use Rattle.reader_sections.specs.Steps.{TakesFixed, TakesLong}
 use Rattle.reader_sections.specs.declared.steps.Step.{Step}
 use Rattle.reader_sections.proofs.Leads.{then}
 use Rattle.reader_sections.proofs.test_texts.read_please.Statement.{statement}

@@ -9,7 +9,7 @@ use Rattle.grammar.specs.States.State.{atTest, atTestText}
 use Rattle.grammar.specs.Steps.{step}
 use Rattle.vocabulary.proofs.FixedWords.{fixed-sigmet}
 use Rattle.reader_sections.specs.Forms.{PleaseSays, TestSays}
-use Rattle.reader_sections.specs.Leading.{MayTake}
+use Rattle.reader_sections.specs.Steps.{MayTake}
 use Rattle.reader_sections.specs.declared.steps.Step.{Step}
 use Rattle.reader_sections.proofs.Leads.{then}
 use Rattle.reader_sections.proofs.test_texts.read_test.Statement.{statement}

@@ -1,5 +1,6 @@
--- A section leads from one step to another. A step is a number and a place: number 0 says that the run goes on from that place, any other number
--- that the word at that place was refused. A section's contract is then an equation of runs at two steps, and a step once refused stays refused.
+-- A section leads from one step to another. A step is a number and a place: number 0 says that the run of the grammar's machine goes on from that
+-- place, any other number that the word at that place was refused. A section's contract is then an equation of runs at two steps, and a step once
+-- refused stays refused.
 -- Assumes nothing.
 use mathlib.Core.Bool.{Bool, true, false}
 use mathlib.Core.List.{List}
@@ -8,23 +9,37 @@ use Prim.Native.Nat.{ℕ, _≤_}
 use lib.Dec.{eqb}
 use lib.ListN.{length}
 use Rattle.lists.specs.Choice.{pick}
-use Rattle.lists.specs.Lists.{same}
+use Rattle.lists.specs.Lists.{part, same}
 use Rattle.words.specs.Words.{spanOf}
 use Rattle.figures.specs.Codes.{FixedWord}
 use Rattle.message.specs.declared.Record.{Record}
 use Rattle.grammar.specs.Numbers.{numberOf}
 use Rattle.grammar.specs.Runs.{Ran, runAt}
-use Rattle.grammar.specs.Runs.Ran.{refused}
+use Rattle.grammar.specs.Runs.Ran.{accepted, refused}
 use Rattle.grammar.specs.States.{State}
 use Rattle.grammar.specs.States.Move.{goes}
 use Rattle.grammar.specs.States.State.{atEnd}
 use Rattle.grammar.specs.Steps.{goesIf, step}
-use Rattle.reader_sections.specs.Going.{concluded, wordFrom, WordAt}
 use Rattle.reader_sections.specs.declared.steps.Step.{Step}
+
+-- the next word of the text from a place on
+abbrev pub wordFrom : List ℕ → ℕ → List ℕ
+wordFrom t at = part (spanOf t at .start) (spanOf t at .end) t
+
+-- … where it begins and ends
+pub record WordAt (t : List ℕ) (at start end : ℕ) : Type 0 where
+  pub starts : start ≡ spanOf t at .start
+  pub ends : end ≡ spanOf t at .end
+  pub ordered : start ≤ end
+  pub within : end ≤ length t
 
 -- the run at a step
 abbrev pub runOn : State → List ℕ → Step → Ran
 runOn s t p = pick (eqb (p .number) 0) (runAt s t (p .place)) (refused (p .number) (p .place))
+
+-- the run is over: the record is accepted, or the word at that place is refused by that number
+abbrev pub concluded : ℕ → ℕ → Record → Ran
+concluded number place r = pick (eqb number 0) (accepted r) (refused number place)
 
 -- from one step in a state to another in the next
 pub record Leads (s : State) (t : List ℕ) (from to : Step) (next : State) : Type 0 where

@@ -23,7 +23,7 @@ use Rattle.grammar.specs.Runs.Ran.{accepted, refused}
 use Rattle.grammar.specs.States.{State}
 use Rattle.grammar.specs.States.Move.{goes, done, dead}
 use Rattle.grammar.specs.Steps.{step}
-use Rattle.reader_sections.specs.Going.{wordFrom, WordAt}
+use Rattle.reader_sections.specs.Steps.{wordFrom, WordAt}
 
 -- what is found passes the test, and is found again
 from-found : (f : ℕ → Bool) (t : List ℕ) (i : ℕ) → indexFrom f i t < length t → f (getD t (indexFrom f i t) 0) ≡ true

@@ -5,24 +5,34 @@ use mathlib.Core.List.{List, [], _∷_}
 use mathlib.Core.Path.{_≡_, refl, ap, sym, _∙_}
 use Prim.Native.Nat.{ℕ, _-_, _≤_, _<_}
 use native.Mathlib.Omega.{arith}
+use lib.Dec.{eqb}
 use lib.ListN.{length}
 use borrow.Author.Tests.{ne-eqb}
 use mathlib.Core.Logic.{_⊎_}
 use mathlib.Core.Logic._⊎_.{inl, inr}
+use Rattle.lists.specs.Choice.{pick}
 use Rattle.lists.specs.Lists.{part, same}
 use Rattle.lists.proofs.Lists.{length-part}
 use Rattle.figures.specs.Reads.{Reads}
 use Rattle.grammar.specs.Numbers.{numberOf}
-use Rattle.grammar.specs.Runs.{runAt}
-use Rattle.grammar.specs.Runs.Ran.{refused}
+use Rattle.message.specs.declared.Record.{Record}
+use Rattle.grammar.specs.Runs.{Ran, runAt}
+use Rattle.grammar.specs.Runs.Ran.{accepted, refused}
 use Rattle.grammar.specs.States.{State}
 use Rattle.grammar.specs.States.Move.{goes, dead}
 use Rattle.grammar.specs.States.State.{atEnd}
 use Rattle.grammar.specs.Steps.{goesIf, step}
 use Rattle.grammar.proofs.NumberLaws.{number-range}
-use Rattle.reader_sections.specs.Going.{EndAt, goesOn, Goes, wordFrom, WordAt}
-use Rattle.reader_sections.proofs.Chains.{off-ends}
-use Rattle.reader_sections.proofs.Going.{dead-at, same-at, goes-at, done-at, some-word}
+use Rattle.reader_sections.specs.Steps.{wordFrom, WordAt}
+use Rattle.reader_sections.proofs.RunsAt.{dead-at, same-at, goes-at, done-at, some-word}
+
+-- the run goes on from that place in that state, or the word at that place is refused by that number
+abbrev goesOn : ℕ → ℕ → State → List ℕ → Ran
+goesOn number place s t = pick (eqb number 0) (runAt s t place) (refused number place)
+
+-- what one word does to the run from a place in a state
+pub record Goes (s : State) (t : List ℕ) (at number place : ℕ) (next : State) : Type 0 where
+  pub says : runAt s t at ≡ goesOn number place next t
 
 -- a refusal by a state's number is none of number 0
 refused-on : (s : State) (n p : ℕ) (next : State) (t : List ℕ) → numberOf s ≡ n → refused (numberOf s) p ≡ goesOn n p next t
@@ -90,15 +100,13 @@ some-byte (b ∷ w) l = refl
 
 module _ {t : List ℕ} {at start end : ℕ} (h : at ≤ length t) (w : WordAt t at start end) where
   -- the message is over
-  pub end-yes : start ≡ end → EndAt t at 0 0
+  pub end-yes : start ≡ end → (r : Record) → runAt (atEnd r) t at ≡ accepted r
   unfolding step same
-  end-yes e = record { says = λ r. record { says = done-at (atEnd r) r t at h (omega (arith, word-length w)) refl } }
+  end-yes e r = done-at (atEnd r) r t at h (omega (arith, word-length w)) refl
 
   -- a word where only the `=` may stand
-  pub end-no : (start ≡ end → ⊥) → EndAt t at 12 start
+  pub end-no : (start ≡ end → ⊥) → (r : Record) → runAt (atEnd r) t at ≡ refused 12 start
   unfolding step
-  end-no e = record {
-    says = λ r.
-        let other : same (wordFrom t at) [] ≡ false = some-byte (wordFrom t at) (λ z. e (omega (arith, word-length w, w .ordered))) in
-        off-ends (dead-word h w (atEnd r) (atEnd r) 12 refl (rw other)) (λ z. omega arith);
-  }
+  end-no e r =
+      let other : same (wordFrom t at) [] ≡ false = some-byte (wordFrom t at) (λ z. e (omega (arith, word-length w, w .ordered))) in
+      dead-at (atEnd r) t at h (rw other) ∙ ap (refused 12) (sym (w .starts))
