@@ -18,8 +18,11 @@ use Rattle.message.specs.declared.Form.{Form}
 use Rattle.message.specs.declared.Form.the-variants.{Test, Reported}
 use Rattle.message.specs.declared.Location.the-variants.{Bounded, Outline}
 use Rattle.message.specs.declared.Record.{Record}
-use Rattle.message.proofs.Goodness.{good-parts, area-parts, name-parts, outline-parts, forecast-parts}
-use Rattle.writer_sections.specs.Sections.{GoodReport, GoodEnding}
+use Rattle.message.specs.declared.Report.{Report}
+use Rattle.message.specs.declared.Volcano.{Volcano}
+use Rattle.message.specs.Reports.{goodVolcano}
+use Rattle.message.proofs.Goodness.{good-parts, area-parts, name-parts, outline-parts, forecast-parts, report-parts, volcano-parts}
+use Rattle.writer_sections.specs.Sections.{GoodReport, GoodPhenomenon, GoodMount, GoodEnding}
 
 -- by the form that was found
 form-of : (r : Record) (f : Form) → good r ≡ true → r .form ≡ f → goodForm (r .heading .designator .kind) (r .line) (r .report) f ≡ true
@@ -34,6 +37,18 @@ test-number r n g e =
 pub reported : (r : Record) → good r ≡ true → r .form ≡ Reported → GoodReport (r .report)
 unfolding goodForm
 reported r g e = record { kind = r .heading .designator .kind; holds = form-of r Reported g e }
+
+pub report-phenomenon : (r : Report) → GoodReport r → GoodPhenomenon (r .phenomenon) (r .volcano)
+report-phenomenon r g = record { kind = g .kind; holds = report-parts (g .kind) r (g .holds) .phenomenon }
+
+pub report-extent : (r : Report) → GoodReport r → goodExtent (r .extent) ≡ true
+report-extent r g = report-parts (g .kind) r (g .holds) .extent
+
+pub report-ending : (r : Report) → GoodReport r → GoodEnding (r .ending) (r .forecast)
+report-ending r g = record { kind = g .kind; holds = report-parts (g .kind) r (g .holds) .ending }
+
+pub volcano-mount : (v : Volcano) → goodVolcano v ≡ true → GoodMount (v .name)
+volcano-mount v g = record { holds = volcano-parts v g .name }
 
 pub area-fits : (r : Record) → good r ≡ true → r .area .name .count ≤ 50
 area-fits r g = name-parts false nameBytes (r .area .name) (area-parts (r .area) (good-parts r g .area) .name) .fits

@@ -1,13 +1,13 @@
 -- `put_body` meets its contract: the form goes on from the area. Assumes nothing.
-use Rattle.message.specs.Words.{areaWords, bodyWords}
-use Rattle.writer_sections.proofs.RecordLaws.{area-fits}
-use Rattle.pens.proofs.PenLaws.{line-on}
 use borrow.Author.Needs.{needs}
+use Rattle.message.specs.Words.{areaWords, bodyWords}
+use Rattle.pens.proofs.PenLaws.{line-on}
+use Rattle.writer_sections.proofs.RecordLaws.{area-fits}
 use Rattle.writer_sections.proofs.put_body.Statement.{statement}
 use Rattle.writer_sections.proofs.put_body.Tie as tie
 
 put-area-requires : tie.Need-put-area-requires
-put-area-requires c κs = area-fits (c .before .before .before .args .r) (c .before .before .before .pre)
+put-area-requires c κs = search area-fits
 
 put-form-requires : tie.Need-put-form-requires
 put-form-requires c κs = search needs

@@ -1,8 +1,8 @@
 -- `put_ending` meets its contract: each ending has its words. Assumes nothing.
-use Rattle.message.specs.Reports.{endingWords}
-use Rattle.writer_sections.proofs.RecordLaws.{forecast-good}
-use Rattle.pens.proofs.PenLaws.{no-words}
 use borrow.Author.Needs.{needs}
+use Rattle.message.specs.Reports.{endingWords}
+use Rattle.pens.proofs.PenLaws.{no-words}
+use Rattle.writer_sections.proofs.RecordLaws.{forecast-good}
 use Rattle.writer_sections.proofs.ending.put_ending.Statement.{statement}
 use Rattle.writer_sections.proofs.ending.put_ending.Tie as tie
 
@@ -25,9 +25,7 @@ enum-known-ending-3 : tie.Need-enum-known-ending-3
 enum-known-ending-3 c = search needs
 
 put-forecast-requires : tie.Need-put-forecast-requires
-put-forecast-requires c κs =
-    forecast-good (c .before .before .before .before .before .args .ending) (c .before .before .before .before .before .args .forecast) _
-    (c .before .before .before .before .before .pre) (c .before .before .ending3 .given .1)
+put-forecast-requires c κs = search forecast-good
 
 returns : tie.Need-returns
 unfolding endingWords

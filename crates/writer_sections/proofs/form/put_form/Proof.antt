@@ -1,8 +1,8 @@
 -- `put_form` meets its contract: each form has its words. Assumes nothing.
-use Rattle.message.specs.Words.{formWords}
-use Rattle.writer_sections.proofs.RecordLaws.{test-number, reported}
-use Rattle.pens.proofs.PenLaws.{no-words}
 use borrow.Author.Needs.{needs}
+use Rattle.message.specs.Words.{formWords}
+use Rattle.pens.proofs.PenLaws.{no-words}
+use Rattle.writer_sections.proofs.RecordLaws.{test-number, reported}
 use Rattle.writer_sections.proofs.form.put_form.Statement.{statement}
 use Rattle.writer_sections.proofs.form.put_form.Tie as tie
 
@@ -13,9 +13,7 @@ enum-known-form : tie.Need-enum-known-form
 enum-known-form c = search needs
 
 put-test-requires : tie.Need-put-test-requires
-put-test-requires c κs =
-    test-number (c .before .before .before .before .before .before .before .before .before .before .args .r) _
-    (c .before .before .before .before .before .before .before .before .before .before .pre) (c .before .before .form .given .1)
+put-test-requires c κs = let start = c .before .before .before .before .before .before .before .before .before .before in test-number (start .args .r) _ (start .pre) (c .before .before .form .given .1)
 
 enum-known-form-2 : tie.Need-enum-known-form-2
 enum-known-form-2 c = search needs
@@ -27,9 +25,7 @@ enum-told-2 : tie.Need-enum-told-2
 enum-told-2 c = search needs
 
 put-report-requires : tie.Need-put-report-requires
-put-report-requires c κs =
-    reported (c .before .before .before .before .before .before .before .before .before .args .r)
-    (c .before .before .before .before .before .before .before .before .before .pre) (c .before .enum-told2 .given .1)
+put-report-requires c κs = search reported
 
 returns : tie.Need-returns
 unfolding formWords

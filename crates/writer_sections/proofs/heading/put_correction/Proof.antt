@@ -1,12 +1,11 @@
 -- `put_correction` meets its contract: none has no word, and a letter goes behind `CC`. Assumes nothing.
-use borrow.Author.Tests.{ne-eqb}
-use Rattle.pens.proofs.PenLaws.{no-words, goes-on}
 use borrow.Author.Needs.{needs}
+use Rattle.writer_sections.proofs.SectionLaws.{no-correction, a-correction}
 use Rattle.writer_sections.proofs.heading.put_correction.Statement.{statement}
 use Rattle.writer_sections.proofs.heading.put_correction.Tie as tie
 
 returns : tie.Need-returns
-returns c = rw (c .if1 .taken) no-words
+returns c = search no-correction
 
 slice-aggregate-put-word : tie.Need-slice-aggregate-put-word
 slice-aggregate-put-word c = search needs
@@ -21,9 +20,7 @@ same-length : tie.Need-same-length
 same-length c = search needs
 
 returns-2 : tie.Need-returns-2
-returns-2 c =
-    rw (ne-eqb _ 0 (c .before .before .before .before .before .before .before .before .before .if1 .left)) (goes-on
-    (c .before .before .before .before .before .before .put-word .ensures) (c .before .before .put .ensures))
+returns-2 c = search a-correction
 
 pub put-correction-spec : {M : Type 1} → statement M
 put-correction-spec =

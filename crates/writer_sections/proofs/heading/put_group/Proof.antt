@@ -1,7 +1,7 @@
 -- `put_group` meets its contract: day, hour and minute, one behind the other. Assumes nothing.
+use borrow.Author.Needs.{needs}
 use Rattle.groups.specs.Groups.{spellGroup}
 use Rattle.pens.proofs.PenLaws.{then}
-use borrow.Author.Needs.{needs}
 use Rattle.writer_sections.proofs.heading.put_group.Statement.{statement}
 use Rattle.writer_sections.proofs.heading.put_group.Tie as tie
 
@@ -28,9 +28,7 @@ same-length c = search needs
 
 returns : tie.Need-returns
 unfolding spellGroup
-returns c =
-    then (c .before .before .before .before .before .before .before .before .before .before .before .before .put-figures .ensures) (then
-    (c .before .before .before .before .before .before .before .put-figures2 .ensures) (c .before .before .put-figures3 .ensures))
+returns c = search then
 
 pub put-group-spec : {M : Type 1} → statement M
 put-group-spec =

@@ -1,7 +1,8 @@
 -- `put_heading` meets its contract: its words, one behind the other. Assumes nothing.
-use Rattle.message.specs.Words.{headingWords}
-use Rattle.pens.proofs.PenLaws.{a-line, and-then}
 use borrow.Author.Needs.{needs}
+use Rattle.message.specs.Words.{headingWords}
+use Rattle.pens.proofs.PenLaws.{a-line}
+use Rattle.writer_sections.proofs.Sentences.{word}
 use Rattle.writer_sections.proofs.heading.put_heading.Statement.{statement}
 use Rattle.writer_sections.proofs.heading.put_heading.Tie as tie
 
@@ -22,10 +23,7 @@ same-length c = search needs
 
 returns : tie.Need-returns
 unfolding headingWords
-returns c =
-    a-line (c .before .before .before .before .before .before .before .before .before .before .before .before .before .before .put-designator .ensures)
-    (and-then (c .before .before .before .before .before .before .before .before .before .before .put-four .ensures) (and-then
-    (c .before .before .before .before .before .before .put-sent .ensures) (c .before .before .put-correction .ensures)))
+returns c = search (a-line, word)
 
 pub put-heading-spec : {M : Type 1} → statement M
 put-heading-spec =

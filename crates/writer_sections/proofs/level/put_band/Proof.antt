@@ -1,5 +1,5 @@
 -- `put_band` meets its contract: `/` and three figures go on from the lower level. Assumes nothing.
-use Rattle.pens.specs.Pens.{packedIn}
+use Rattle.figures.specs.Codes.{behindOne}
 use Rattle.pens.proofs.PenLaws.{then, goes-on}
 use borrow.Author.Needs.{needs}
 use Rattle.writer_sections.proofs.level.put_band.Statement.{statement}
@@ -18,7 +18,7 @@ same-length : tie.Need-same-length
 same-length c = search needs
 
 returns : tie.Need-returns
-unfolding packedIn
+unfolding behindOne
 returns c = goes-on (c .before .before .before .before .before .before .before .before .before .before .put-flight .ensures) (then (c .before .before .before .before .before .before .put .ensures) (c .before .before .put-figures .ensures))
 
 pub put-band-spec : {M : Type 1} → statement M

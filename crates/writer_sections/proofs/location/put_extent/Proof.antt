@@ -1,8 +1,8 @@
 -- `put_extent` meets its contract: each location has its words. Assumes nothing.
-use Rattle.message.specs.Locations.{extentWords}
-use Rattle.writer_sections.proofs.RecordLaws.{bounded, outlined}
-use Rattle.pens.proofs.PenLaws.{no-words}
 use borrow.Author.Needs.{needs}
+use Rattle.message.specs.Locations.{extentWords}
+use Rattle.pens.proofs.PenLaws.{no-words}
+use Rattle.writer_sections.proofs.RecordLaws.{bounded, outlined}
 use Rattle.writer_sections.proofs.location.put_extent.Statement.{statement}
 use Rattle.writer_sections.proofs.location.put_extent.Tie as tie
 
@@ -13,13 +13,13 @@ enum-known-location : tie.Need-enum-known-location
 enum-known-location c = search needs
 
 put-bound-requires : tie.Need-put-bound-requires
-put-bound-requires c κs = bounded (c .before .before .before .before .before .before .args .e) _ (c .before .before .before .before .before .before .pre) (c .before .before .location .given .1)
+put-bound-requires c κs = search bounded
 
 enum-known-location-2 : tie.Need-enum-known-location-2
 enum-known-location-2 c = search needs
 
 put-outline-requires : tie.Need-put-outline-requires
-put-outline-requires c κs = outlined (c .before .before .before .before .before .before .args .e) _ (c .before .before .before .before .before .before .pre) (c .before .before .location2 .given .1)
+put-outline-requires c κs = let start = c .before .before .before .before .before .before in outlined (start .args .e) _ (start .pre) (c .before .before .location2 .given .1)
 
 enum-told-2 : tie.Need-enum-told-2
 enum-told-2 c = search needs

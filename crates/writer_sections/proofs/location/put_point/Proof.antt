@@ -1,7 +1,7 @@
 -- `put_point` meets its contract: latitude and longitude, one behind the other. Assumes nothing.
-use Rattle.coordinates.specs.Coordinates.{spellCoordinate}
-use Rattle.pens.proofs.PenLaws.{and-then}
 use borrow.Author.Needs.{needs}
+use Rattle.coordinates.specs.Coordinates.{spellCoordinate}
+use Rattle.writer_sections.proofs.Sentences.{word}
 use Rattle.writer_sections.proofs.location.put_point.Statement.{statement}
 use Rattle.writer_sections.proofs.location.put_point.Tie as tie
 
@@ -16,7 +16,7 @@ same-length c = search needs
 
 returns : tie.Need-returns
 unfolding spellCoordinate
-returns c = and-then (c .before .before .before .before .before .before .put-coordinate .ensures) (c .before .before .put-coordinate2 .ensures)
+returns c = search word
 
 pub put-point-spec : {M : Type 1} → statement M
 put-point-spec =

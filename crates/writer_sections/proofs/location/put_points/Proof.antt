@@ -8,17 +8,18 @@ use Rattle.lists.specs.Lists.{part}
 use Rattle.coordinates.specs.Points.{noPoint}
 use Rattle.message.specs.Locations.{dashed}
 use Rattle.pens.specs.Pens.{Words}
-use Rattle.pens.proofs.PenLaws.{no-words}
+use Rattle.vocabulary.proofs.FixedWords.{fixed-dash}
+use Rattle.pens.proofs.PenLaws.{no-words, fixed}
 use Rattle.writer_sections.proofs.SectionLaws.{point-more, points-joined}
 use Rattle.writer_sections.proofs.location.put_points.Statement.{statement}
 use Rattle.writer_sections.proofs.location.put_points.Tie as tie
 
 abbrev Inv-loop : tie.InvT-loop
-Inv-loop out₀ at count points next₀ i₀ t8 out next i =
+Inv-loop out₀ at count points next₀ i₀ out next i =
     Words (dashed (part 1 i points)) next₀ out₀ next out × (1 ≤ i) × (i ≤ count) × (length out ≡ length out₀) × (length points ≡ 7)
 
 abbrev μ-loop : tie.MeasureT-loop
-μ-loop out₀ at count points next₀ i₀ t8 out next i = count - i
+μ-loop out₀ at count points next₀ i₀ out next i = count - i
 
 array-copy-out-put-point : tie.Need-array-copy-out-put-point Inv-loop μ-loop
 array-copy-out-put-point c = search needs
@@ -30,11 +31,8 @@ loop-holds : tie.Need-loop-holds Inv-loop μ-loop
 unfolding dashed
 loop-holds c = (no-words, omega arith, c .before .before .before .before .before .before .pre .0, refl, search needs)
 
-slice-aggregate-put-word : tie.Need-slice-aggregate-put-word Inv-loop μ-loop
-slice-aggregate-put-word c = search needs
-
-put-word-requires : tie.Need-put-word-requires Inv-loop μ-loop
-put-word-requires c κs = tt
+put-fixed-requires : tie.Need-put-fixed-requires Inv-loop μ-loop
+put-fixed-requires c κs = tt
 
 mul-put-point : tie.Need-mul-put-point Inv-loop μ-loop
 mul-put-point c = search needs
@@ -53,8 +51,8 @@ loop-less c = search needs
 
 loop-again : tie.Need-loop-again Inv-loop μ-loop
 loop-again c =
-    let turn = c .before .before .before .before .before .before .before .before .before .before .before in (
-      point-more (turn .before .before .before .before .before .before .before .args .t4) (turn .loop .i) noPoint (turn .loop .inv .1) (omega arith) (turn .loop .inv .0) (c .before .before .before .before .before .before .before .put-word .ensures) (c .before .before .put-point2 .ensures),
+    let turn = c .before .before .before .before .before .before .before .before .before .before in (
+      point-more (turn .before .before .before .before .before .before .before .args .t4) (turn .loop .i) noPoint (turn .loop .inv .1) (omega arith) (turn .loop .inv .0) (fixed fixed-dash (c .before .before .before .before .before .before .before .put-fixed .ensures)) (c .before .before .put-point2 .ensures),
       omega arith,
       search needs,
       search needs,
@@ -79,8 +77,7 @@ put-points-spec =
     array-copy-out-put-point
     put-point-requires
     loop-holds
-    slice-aggregate-put-word
-    put-word-requires
+    put-fixed-requires
     mul-put-point
     array-copy-out-put-point-2
     put-point-requires-2

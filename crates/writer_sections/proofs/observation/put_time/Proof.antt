@@ -1,7 +1,8 @@
 -- `put_time` meets its contract: hour, minute and `Z` go on from the space. Assumes nothing.
-use Rattle.groups.specs.Groups.{spellTime}
-use Rattle.pens.proofs.PenLaws.{then, a-space, goes-on}
 use borrow.Author.Needs.{needs}
+use Rattle.groups.specs.Groups.{spellTime}
+use Rattle.pens.proofs.PenLaws.{then}
+use Rattle.writer_sections.proofs.Sentences.{spaced-word}
 use Rattle.writer_sections.proofs.observation.put_time.Statement.{statement}
 use Rattle.writer_sections.proofs.observation.put_time.Tie as tie
 
@@ -28,11 +29,7 @@ same-length c = search needs
 
 returns : tie.Need-returns
 unfolding spellTime
-returns c =
-    goes-on (a-space
-    (c .before .before .before .before .before .before .before .before .before .before .before .before .before .before .before .before .put .ensures))
-    (then (c .before .before .before .before .before .before .before .before .before .before .before .put-figures .ensures) (then
-    (c .before .before .before .before .before .before .put-figures2 .ensures) (c .before .before .put2 .ensures)))
+returns c = search (spaced-word, then)
 
 pub put-time-spec : {M : Type 1} → statement M
 put-time-spec =

@@ -1,12 +1,11 @@
 -- `put_letter` meets its contract: none has no byte, and a letter has itself. Assumes nothing.
-use borrow.Author.Tests.{ne-eqb}
-use Rattle.pens.proofs.PenLaws.{nothing}
 use borrow.Author.Needs.{needs}
-use Rattle.writer_sections.proofs.heading.put_letter.Statement.{statement}
-use Rattle.writer_sections.proofs.heading.put_letter.Tie as tie
+use Rattle.writer_sections.proofs.SectionLaws.{no-letter, a-letter}
+use Rattle.writer_sections.proofs.first_line.put_letter.Statement.{statement}
+use Rattle.writer_sections.proofs.first_line.put_letter.Tie as tie
 
 returns : tie.Need-returns
-returns c = rw (c .if1 .taken) nothing
+returns c = search no-letter
 
 put-requires : tie.Need-put-requires
 put-requires c κs = search needs
@@ -15,7 +14,7 @@ same-length : tie.Need-same-length
 same-length c = search needs
 
 returns-2 : tie.Need-returns-2
-returns-2 c = rw (ne-eqb _ 0 (c .before .before .before .before .if1 .left)) (c .before .before .put .ensures)
+returns-2 c = search a-letter
 
 pub put-letter-spec : {M : Type 1} → statement M
 put-letter-spec = tie.close (tie.spec returns put-requires same-length returns-2)

@@ -1,9 +1,10 @@
 -- `put_period` meets its contract: group, `/` and group go on from the space. Assumes nothing.
-use Rattle.groups.specs.Groups.{spellPeriod}
-use Rattle.pens.proofs.PenLaws.{then, a-space, goes-on}
 use borrow.Author.Needs.{needs}
-use Rattle.writer_sections.proofs.heading.put_period.Statement.{statement}
-use Rattle.writer_sections.proofs.heading.put_period.Tie as tie
+use Rattle.groups.specs.Groups.{spellPeriod}
+use Rattle.pens.proofs.PenLaws.{then}
+use Rattle.writer_sections.proofs.Sentences.{spaced-word, byte}
+use Rattle.writer_sections.proofs.first_line.put_period.Statement.{statement}
+use Rattle.writer_sections.proofs.first_line.put_period.Tie as tie
 
 put-requires : tie.Need-put-requires
 put-requires c κs = search needs
@@ -22,10 +23,7 @@ same-length c = search needs
 
 returns : tie.Need-returns
 unfolding spellPeriod
-returns c =
-    goes-on (a-space (c .before .before .before .before .before .before .before .before .before .before .before .before .before .before .put .ensures))
-    (then (c .before .before .before .before .before .before .before .before .before .before .put-group .ensures) (then
-    (c .before .before .before .before .before .before .put2 .ensures) (c .before .before .put-group2 .ensures)))
+returns c = search (spaced-word, then, byte)
 
 pub put-period-spec : {M : Type 1} → statement M
 put-period-spec =

@@ -1,8 +1,8 @@
 -- `put_office` meets its contract: the hyphen goes on from the letters. Assumes nothing.
-use Rattle.pens.proofs.PenLaws.{goes-on}
 use borrow.Author.Needs.{needs}
-use Rattle.writer_sections.proofs.heading.put_office.Statement.{statement}
-use Rattle.writer_sections.proofs.heading.put_office.Tie as tie
+use Rattle.pens.proofs.PenLaws.{goes-on}
+use Rattle.writer_sections.proofs.first_line.put_office.Statement.{statement}
+use Rattle.writer_sections.proofs.first_line.put_office.Tie as tie
 
 put-four-requires : tie.Need-put-four-requires
 put-four-requires c κs = search needs
@@ -14,7 +14,7 @@ same-length : tie.Need-same-length
 same-length c = search needs
 
 returns : tie.Need-returns
-returns c = goes-on (c .before .before .before .before .before .before .put-four .ensures) (c .before .before .put .ensures)
+returns c = search goes-on
 
 pub put-office-spec : {M : Type 1} → statement M
 put-office-spec = tie.close (tie.spec put-four-requires put-requires same-length returns)

@@ -1,9 +1,10 @@
 -- `put_sequence` meets its contract: letter and figures go on from the space. Assumes nothing.
-use Rattle.headings.specs.Sequences.{spellSequence}
-use Rattle.pens.proofs.PenLaws.{then, a-space, goes-on}
 use borrow.Author.Needs.{needs}
-use Rattle.writer_sections.proofs.heading.put_sequence.Statement.{statement}
-use Rattle.writer_sections.proofs.heading.put_sequence.Tie as tie
+use Rattle.headings.specs.Sequences.{spellSequence}
+use Rattle.pens.proofs.PenLaws.{then}
+use Rattle.writer_sections.proofs.Sentences.{spaced-word}
+use Rattle.writer_sections.proofs.first_line.put_sequence.Statement.{statement}
+use Rattle.writer_sections.proofs.first_line.put_sequence.Tie as tie
 
 put-requires : tie.Need-put-requires
 put-requires c κs = search needs
@@ -22,9 +23,7 @@ same-length c = search needs
 
 returns : tie.Need-returns
 unfolding spellSequence
-returns c =
-    goes-on (a-space (c .before .before .before .before .before .before .before .before .before .before .before .put .ensures)) (then
-    (c .before .before .before .before .before .before .before .put-letter .ensures) (c .before .before .put-figures .ensures))
+returns c = search (spaced-word, then)
 
 pub put-sequence-spec : {M : Type 1} → statement M
 put-sequence-spec =
