@@ -27,12 +27,13 @@ pub spaced-word : {w : List ℕ} {at n m : ℕ} {page p q : List ℕ} → Puts (
 spaced-word f g = goes-on (a-space f) g
 
 -- … and the words behind that
-pub spaced-words : {w : List ℕ} {ws : List (List ℕ)} {at n m o : ℕ} {page p q r : List ℕ} → Puts (32 ∷ []) at page n p → Puts w n p m q → Words ws m q o r
-    → Words (w ∷ ws) at page o r
+pub spaced-words : {w : List ℕ} {ws : List (List ℕ)} {at n m o : ℕ} {page p q r : List ℕ} → Puts (32 ∷ []) at page n p → Puts w n p m q
+    → Words ws m q o r → Words (w ∷ ws) at page o r
 spaced-words f g h = and-then (spaced-word f g) h
 
 -- a word, and those behind it
-pub word : {w : List ℕ} {ws : List (List ℕ)} {at n m : ℕ} {page p q : List ℕ} → Words (w ∷ []) at page n p → Words ws n p m q → Words (w ∷ ws) at page m q
+pub word : {w : List ℕ} {ws : List (List ℕ)} {at n m : ℕ} {page p q : List ℕ} → Words (w ∷ []) at page n p → Words ws n p m q
+    → Words (w ∷ ws) at page m q
 word f g = and-then f g
 
 -- two words, and those behind them
@@ -51,7 +52,8 @@ pub word-fixed : {w : List ℕ} {ws : List (List ℕ)} {code at n m : ℕ} {page
 word-fixed k f g = and-then (fixed k f) g
 
 -- a line, and the text behind it
-pub line-then : {ws : List (List ℕ)} {t : List ℕ} {at n m : ℕ} {page p q : List ℕ} → Line ws at page n p → Puts t n p m q → Puts (line ws ++ t) at page m q
+pub line-then : {ws : List (List ℕ)} {t : List ℕ} {at n m : ℕ} {page p q : List ℕ} → Line ws at page n p → Puts t n p m q
+    → Puts (line ws ++ t) at page m q
 line-then f g = then (line-text f) g
 
 -- CR LF, and the text behind it

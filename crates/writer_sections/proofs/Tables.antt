@@ -3,7 +3,7 @@
 use mathlib.Core.Bool.{Bool, true}
 use mathlib.Core.List.{List, []}
 use mathlib.Core.Logic.{_⊎_, inl, inr}
-use mathlib.Core.Path.{_≡_, ap, _∙_}
+use mathlib.Core.Path.{_≡_, ap, sym, _∙_}
 use Prim.Native.Nat.{ℕ, zero, suc, _+_, _-_, _≤_, _<_}
 use native.Mathlib.Omega.{arith}
 use lib.Dec.{eqb, ltb}
@@ -57,8 +57,8 @@ stretched f first (suc count) n t low high =
 
 -- all numbers of a stretch have that word, tested one by one
 pub ranged : (word : ℕ → List ℕ) (w : List ℕ) (first count n : ℕ) → stretch first count (λ (k : ℕ). same (word k) w) ≡ true → first ≤ n
-    → n < first + count → word n ≡ w
-ranged word w first count n t low high = same-is (word n) w (stretched (λ (k : ℕ). same (word k) w) first count n t low high)
+    → n < first + count → w ≡ word n
+ranged word w first count n t low high = sym (same-is (word n) w (stretched (λ (k : ℕ). same (word k) w) first count n t low high))
 
 -- four numbers have that word
 pub one-of-four : (word : ℕ → List ℕ) (w : List ℕ) (a b c d n : ℕ) → word a ≡ w → word b ≡ w → word c ≡ w → word d ≡ w

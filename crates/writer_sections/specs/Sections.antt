@@ -77,6 +77,10 @@ firstWord n = getD (namedWords n) 0 []
 abbrev pub secondWord : ℕ → List ℕ
 secondWord n = getD (namedWords n) 1 []
 
+-- the number of `SEV ICE (FZRA)`
+abbrev pub freezingRain : ℕ
+freezingRain = 11
+
 -- `OBS` or `FCST`
 abbrev pub observedWord : ℕ → List ℕ
 observedWord n = pick (eqb n 1) (bytes "OBS") (bytes "FCST")

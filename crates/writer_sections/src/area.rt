@@ -4,6 +4,7 @@ ghost use Prim.Native.Nat.{_≤_};
 ghost use Rattle.figures.specs.Codes.{spellCode};
 ghost use Rattle.figures.specs.Tables.{numbered};
 ghost use Rattle.names.specs.Names.{closingWords};
+ghost use Rattle.message.specs.Limits.{nameBytes};
 ghost use Rattle.message.specs.Names.{nameWords};
 ghost use Rattle.message.specs.Words.{areaWords};
 ghost use Rattle.pens.specs.Pens.{Words, Line};
@@ -17,7 +18,7 @@ use pens::put_word;
 
 // The words of a name. The record keeps them as one text with single spaces, so that a space before it is all that is missing.
 pub(crate) fn put_name(out: &mut [u8], at: usize, n: Name) -> usize
-    requires { ⌜ n .count ≤ 50 ⌝ }
+    requires { ⌜ n .count ≤ nameBytes ⌝ }
     ensures { λ r. ⌜ Words (nameWords n) at (now (out .entry)) r (now (out .exit)) ⌝ }
 {
     let text = n.bytes;
@@ -25,6 +26,7 @@ pub(crate) fn put_name(out: &mut [u8], at: usize, n: Name) -> usize
     put_word(out, at, &text[..count])
 }
 
+// The word with which an area closes.
 fn closing_word(n: u8) -> u64
     ensures { λ r. ⌜ spellCode r ≡ numbered 1 closingWords n ⌝ }
 {
@@ -37,7 +39,7 @@ fn closing_word(n: u8) -> u64
 }
 
 pub(crate) fn put_area(out: &mut [u8], at: usize, a: Area) -> usize
-    requires { ⌜ a .name .count ≤ 50 ⌝ }
+    requires { ⌜ a .name .count ≤ nameBytes ⌝ }
     ensures { λ r. ⌜ Line (areaWords a) at (now (out .entry)) r (now (out .exit)) ⌝ }
 {
     let name = a.name;

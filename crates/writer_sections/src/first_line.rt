@@ -1,5 +1,5 @@
-// The first line behind the heading: unit, `SIGMET` and its sequence, `VALID` and its period, and the office. Sequence and period stand in a
-// cancellation too.
+// The first line, which follows the heading: unit, `SIGMET` and its sequence, `VALID` and its period, and the office. A cancellation has a
+// sequence and a period too.
 ghost use mathlib.Core.List.{[], _∷_};
 ghost use Rattle.groups.specs.Groups.{spellPeriod};
 ghost use Rattle.headings.specs.Headings.{spellOffice};

@@ -77,11 +77,8 @@ pub(crate) fn put_form(out: &mut [u8], at: usize, r: Record) -> usize
     ensures { λ n. ⌜ Words (formWords r (r .form)) at (now (out .entry)) n (now (out .exit)) ⌝ }
 {
     let form = r.form;
-    let line = r.line;
-    let area = r.area;
     let report = r.report;
-    let valid = line.valid;
-    let to = valid.to;
+    let to = r.line.valid.to;
     let end = Time {
         hour: to.hour,
         minute: to.minute,
@@ -90,6 +87,6 @@ pub(crate) fn put_form(out: &mut [u8], at: usize, r: Record) -> usize
         Form::NoForm => at,
         Form::Test(n) => put_test(out, at, n),
         Form::Cancellation(s, from) => put_cancellation(out, at, s, from, to),
-        Form::Reported => put_report(out, at, end, area.closing, report),
+        Form::Reported => put_report(out, at, end, r.area.closing, report),
     }
 }

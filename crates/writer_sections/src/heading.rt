@@ -1,4 +1,4 @@
-// The heading, which is the first line of the text: designator, centre, the group of when it was sent, and perhaps a correction.
+// The heading: designator, centre, the group of day and time at which it was sent, and perhaps a correction.
 ghost use mathlib.Core.List.{[], _∷_};
 ghost use mathlib.Core.Path.{_≡_};
 ghost use Rattle.figures.specs.Codes.{spellCode};
@@ -20,6 +20,7 @@ use pens::put_code;
 use pens::put_figures;
 use pens::put_word;
 
+// The type of bulletin by its kind.
 fn type_word(kind: u8) -> u64
     ensures { λ r. ⌜ spellCode r ≡ numbered 2 typeWords kind ⌝ }
 {
@@ -30,7 +31,7 @@ fn type_word(kind: u8) -> u64
     }
 }
 
-// The type of bulletin, two letters and two figures, in one word.
+// The type, two letters and two figures, in one word: the first of the text, with no space before it.
 fn put_designator(out: &mut [u8], at: usize, d: Designator) -> usize
     ensures { λ r. ⌜ Puts (spellDesignator d) at (now (out .entry)) r (now (out .exit)) ⌝ }
 {
@@ -56,7 +57,7 @@ pub(crate) fn put_group(out: &mut [u8], at: usize, g: Group) -> usize
     put_figures(out, hour_end, g.minute as u32, 2)
 }
 
-// The group of when the bulletin was sent.
+// The same as a word of its own.
 fn put_sent(out: &mut [u8], at: usize, g: Group) -> usize
     ensures { λ r. ⌜ Words (spellGroup g ∷ []) at (now (out .entry)) r (now (out .exit)) ⌝ }
 {

@@ -1,5 +1,5 @@
-// The sections of the writer. A good record is put onto a page as its canonical text: each section has a file, and a function that takes the
-// place where its words begin and answers with the place behind them.
+// The sections of the writer: a good record is put onto a page as its canonical text. Each section of the text has a file here. A function of
+// it takes the page and the place where it begins, and answers with the place behind what it put.
 ghost use mathlib.Core.Bool.{true};
 ghost use mathlib.Core.Path.{_≡_};
 ghost use Rattle.message.specs.Records.{good};
@@ -27,16 +27,17 @@ use message::is_good;
 use pens::put;
 use pens::put_all;
 
-// The code of no word, for a number that no word has: nothing is put for it.
+// The code of no word: it stands for a number that has no word, and nothing is put for it.
 pub(crate) const NO_WORD: u64 = 0;
 
+// CR LF.
 fn put_line_end(out: &mut [u8], at: usize) -> usize
     ensures { λ r. ⌜ Puts newLine at (now (out .entry)) r (now (out .exit)) ⌝ }
 {
     put_all(out, at, b"\r\n")
 }
 
-// The third line: the area, and then a test, a cancellation or a report.
+// The body: the area, and then a test, a cancellation or a report.
 fn put_body(out: &mut [u8], at: usize, r: Record) -> usize
     requires { ⌜ good r ≡ true ⌝ }
     ensures { λ n. ⌜ Line (bodyWords r) at (now (out .entry)) n (now (out .exit)) ⌝ }
@@ -54,10 +55,10 @@ fn put_good(out: &mut [u8], r: Record) -> usize
     let heading = r.heading;
     let line = r.line;
     let heading_end = put_heading(out, 0, heading);
-    let second_line = put_line_end(out, heading_end);
-    let line_end = put_first_line(out, second_line, line);
-    let third_line = put_line_end(out, line_end);
-    let body_end = put_body(out, third_line, r);
+    let line_start = put_line_end(out, heading_end);
+    let line_end = put_first_line(out, line_start, line);
+    let body_start = put_line_end(out, line_end);
+    let body_end = put_body(out, body_start, r);
     put(out, body_end, b'=')
 }
 

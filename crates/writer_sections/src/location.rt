@@ -7,6 +7,7 @@ ghost use lib.ListN.{take};
 ghost use Rattle.coordinates.specs.Coordinates.{spellCoordinate};
 ghost use Rattle.coordinates.specs.Points.{pointWords};
 ghost use Rattle.figures.specs.Codes.{spellCode};
+ghost use Rattle.message.specs.Limits.{mostPoints};
 ghost use Rattle.message.specs.Locations.{goodBound, goodExtent, sideWords, boundWords, joined, entireWords, extentWords};
 ghost use Rattle.pens.specs.Pens.{Words};
 ghost use Rattle.writer_sections.specs.Sections.{axisOf, entireWord, outlineWords};
@@ -80,7 +81,7 @@ fn put_bound(out: &mut [u8], at: usize, b: Bound) -> usize
 
 // Points joined by the word `-`.
 fn put_points(out: &mut [u8], at: usize, count: usize, points: [Point; MOST_POINTS]) -> usize
-    requires { ⌜ (1 ≤ count) × (count ≤ 7) ⌝ }
+    requires { ⌜ (1 ≤ count) × (count ≤ mostPoints) ⌝ }
     ensures { λ r. ⌜ Words (joined (take count points)) at (now (out .entry)) r (now (out .exit)) ⌝ }
 {
     let mut next = put_point(out, at, points[0]);
@@ -93,8 +94,9 @@ fn put_points(out: &mut [u8], at: usize, count: usize, points: [Point; MOST_POIN
     next
 }
 
+// `WI` and the points.
 fn put_outline(out: &mut [u8], at: usize, n: u8, points: [Point; MOST_POINTS]) -> usize
-    requires { ⌜ (1 ≤ n) × (n ≤ 7) ⌝ }
+    requires { ⌜ (1 ≤ n) × (n ≤ mostPoints) ⌝ }
     ensures { λ r. ⌜ Words (outlineWords n points) at (now (out .entry)) r (now (out .exit)) ⌝ }
 {
     let within_end = put_fixed(out, at, vocabulary::WI);

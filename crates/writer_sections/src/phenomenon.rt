@@ -3,6 +3,7 @@ ghost use mathlib.Core.Bool.{true};
 ghost use mathlib.Core.Path.{_≡_};
 ghost use Prim.Native.Nat.{_≤_};
 ghost use Rattle.figures.specs.Codes.{spellCode};
+ghost use Rattle.message.specs.Limits.{ashCloud, eruption};
 ghost use Rattle.message.specs.Reports.{goodVolcano, mountWords, volcanoWords, phenomenonWords};
 ghost use Rattle.pens.specs.Pens.{Words};
 ghost use Rattle.writer_sections.specs.Sections.{GoodMount, GoodPhenomenon, firstWord, secondWord, namedWords};
@@ -14,12 +15,12 @@ use message::Volcano;
 use pens::put_fixed;
 use pens::put_word;
 
-// `SEV ICE (FZRA)`, the only phenomenon of three words.
+// The number of `SEV ICE (FZRA)`, the only phenomenon of three words.
 const ICE_OF_FREEZING_RAIN: u8 = 11;
 
 // The first word of a phenomenon, as `SEV` of `SEV TURB`.
 fn first_word(n: u8) -> u64
-    requires { ⌜ (1 ≤ n) × (n ≤ 17) ⌝ }
+    requires { ⌜ (1 ≤ n) × (n ≤ eruption) ⌝ }
     ensures { λ r. ⌜ spellCode r ≡ firstWord n ⌝ }
 {
     match n {
@@ -36,7 +37,7 @@ fn first_word(n: u8) -> u64
 
 // The second word, as `TURB` of `SEV TURB`. That of an eruption is longer than a code, and is not asked for here.
 fn second_word(n: u8) -> u64
-    requires { ⌜ (1 ≤ n) × (n ≤ 16) ⌝ }
+    requires { ⌜ (1 ≤ n) × (n ≤ ashCloud) ⌝ }
     ensures { λ r. ⌜ spellCode r ≡ secondWord n ⌝ }
 {
     match n {
@@ -53,7 +54,7 @@ fn second_word(n: u8) -> u64
 
 // The words of a phenomenon, without the volcano of an eruption.
 fn put_named(out: &mut [u8], at: usize, n: u8) -> usize
-    requires { ⌜ (1 ≤ n) × (n ≤ 17) ⌝ }
+    requires { ⌜ (1 ≤ n) × (n ≤ eruption) ⌝ }
     ensures { λ r. ⌜ Words (namedWords n) at (now (out .entry)) r (now (out .exit)) ⌝ }
 {
     let first_end = put_fixed(out, at, first_word(n));

@@ -5,21 +5,12 @@ use Rattle.writer_sections.proofs.Tables.{unnumbered}
 use Rattle.writer_sections.proofs.ending.intensity_word.Statement.{statement}
 use Rattle.writer_sections.proofs.ending.intensity_word.Tie as tie
 
-returns : tie.Need-returns
-unfolding intensityWords behindOne
-returns c = rw (c .match .keys1)
-
-returns-2 : tie.Need-returns-2
-unfolding intensityWords behindOne
-returns-2 c = rw (c .match .keys2)
-
-returns-3 : tie.Need-returns-3
-unfolding intensityWords behindOne
-returns-3 c = rw (c .match .keys3)
-
-returns-4 : tie.Need-returns-4
-unfolding intensityWords behindOne
-returns-4 c = rw (unnumbered 1 intensityWords _ (c .match .rest))
-
 pub intensity-word-spec : {M : Type 1} → statement M
-intensity-word-spec = tie.close (tie.spec returns returns-2 returns-3 returns-4)
+unfolding intensityWords behindOne
+intensity-word-spec =
+    tie.close
+    (tie.spec
+    (λ c. rw (c .match .keys1))
+    (λ c. rw (c .match .keys2))
+    (λ c. rw (c .match .keys3))
+    (λ c. rw (unnumbered 1 intensityWords _ (c .match .rest))))

@@ -7,14 +7,8 @@ use Rattle.writer_sections.proofs.first_line.put_letter.Tie as tie
 returns : tie.Need-returns
 returns c = search no-letter
 
-put-requires : tie.Need-put-requires
-put-requires c κs = search needs
-
-same-length : tie.Need-same-length
-same-length c = search needs
-
 returns-2 : tie.Need-returns-2
 returns-2 c = search a-letter
 
 pub put-letter-spec : {M : Type 1} → statement M
-put-letter-spec = tie.close (tie.spec returns put-requires same-length returns-2)
+put-letter-spec = tie.close (tie.spec returns (search needs) (search needs) returns-2)

@@ -6,21 +6,6 @@ use Rattle.writer_sections.proofs.Sentences.{spaced-word, byte}
 use Rattle.writer_sections.proofs.first_line.put_period.Statement.{statement}
 use Rattle.writer_sections.proofs.first_line.put_period.Tie as tie
 
-put-requires : tie.Need-put-requires
-put-requires c κs = search needs
-
-put-group-requires : tie.Need-put-group-requires
-put-group-requires c κs = search needs
-
-put-requires-2 : tie.Need-put-requires-2
-put-requires-2 c κs = search needs
-
-put-group-requires-2 : tie.Need-put-group-requires-2
-put-group-requires-2 c κs = search needs
-
-same-length : tie.Need-same-length
-same-length c = search needs
-
 returns : tie.Need-returns
 unfolding spellPeriod
 returns c = search (spaced-word, then, byte)
@@ -28,10 +13,4 @@ returns c = search (spaced-word, then, byte)
 pub put-period-spec : {M : Type 1} → statement M
 put-period-spec =
     tie.close
-    (tie.spec
-    put-requires
-    put-group-requires
-    put-requires-2
-    put-group-requires-2
-    same-length
-    returns)
+    (tie.spec (search needs) (search needs) (search needs) (search needs) (search needs) returns)

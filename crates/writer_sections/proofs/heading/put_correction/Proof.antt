@@ -7,28 +7,10 @@ use Rattle.writer_sections.proofs.heading.put_correction.Tie as tie
 returns : tie.Need-returns
 returns c = search no-correction
 
-slice-aggregate-put-word : tie.Need-slice-aggregate-put-word
-slice-aggregate-put-word c = search needs
-
-put-word-requires : tie.Need-put-word-requires
-put-word-requires c κs = search needs
-
-put-requires : tie.Need-put-requires
-put-requires c κs = search needs
-
-same-length : tie.Need-same-length
-same-length c = search needs
-
 returns-2 : tie.Need-returns-2
 returns-2 c = search a-correction
 
 pub put-correction-spec : {M : Type 1} → statement M
 put-correction-spec =
     tie.close
-    (tie.spec
-    returns
-    slice-aggregate-put-word
-    put-word-requires
-    put-requires
-    same-length
-    returns-2)
+    (tie.spec returns (search needs) (search needs) (search needs) (search needs) returns-2)

@@ -5,22 +5,13 @@ use borrow.Author.Needs.{needs}
 use Rattle.writer_sections.proofs.level.put_band.Statement.{statement}
 use Rattle.writer_sections.proofs.level.put_band.Tie as tie
 
-put-flight-requires : tie.Need-put-flight-requires
-put-flight-requires c κs = search needs
-
-put-requires : tie.Need-put-requires
-put-requires c κs = search needs
-
-put-figures-requires : tie.Need-put-figures-requires
-put-figures-requires c κs = search needs
-
-same-length : tie.Need-same-length
-same-length c = search needs
-
 returns : tie.Need-returns
 unfolding behindOne
-returns c = goes-on (c .before .before .before .before .before .before .before .before .before .before .put-flight .ensures) (then (c .before .before .before .before .before .before .put .ensures) (c .before .before .put-figures .ensures))
+returns c =
+    let low = c .before .before .before .before .before .before .before .before .before .before .put-flight .ensures in
+    let slash = c .before .before .before .before .before .before .put .ensures in
+    let high = c .before .before .put-figures .ensures in
+    goes-on low (then slash high)
 
 pub put-band-spec : {M : Type 1} → statement M
-put-band-spec =
-    tie.close (tie.spec put-flight-requires put-requires put-figures-requires same-length returns)
+put-band-spec = tie.close (tie.spec (search needs) (search needs) (search needs) (search needs) returns)

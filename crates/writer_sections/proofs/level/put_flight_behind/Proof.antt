@@ -5,19 +5,9 @@ use Rattle.writer_sections.proofs.Sentences.{word}
 use Rattle.writer_sections.proofs.level.put_flight_behind.Statement.{statement}
 use Rattle.writer_sections.proofs.level.put_flight_behind.Tie as tie
 
-put-fixed-requires : tie.Need-put-fixed-requires
-put-fixed-requires c κs = search needs
-
-put-flight-requires : tie.Need-put-flight-requires
-put-flight-requires c κs = search needs
-
-same-length : tie.Need-same-length
-same-length c = search needs
-
 returns : tie.Need-returns
 unfolding behindOne
 returns c = search word
 
 pub put-flight-behind-spec : {M : Type 1} → statement M
-put-flight-behind-spec =
-    tie.close (tie.spec put-fixed-requires put-flight-requires same-length returns)
+put-flight-behind-spec = tie.close (tie.spec (search needs) (search needs) (search needs) returns)

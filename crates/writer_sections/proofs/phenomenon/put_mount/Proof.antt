@@ -8,19 +8,12 @@ use Rattle.writer_sections.proofs.phenomenon.put_mount.Tie as tie
 returns : tie.Need-returns
 returns c = search no-mount
 
-put-fixed-requires : tie.Need-put-fixed-requires
-put-fixed-requires c κs = search needs
-
 put-name-requires : tie.Need-put-name-requires
 put-name-requires c κs = search mount-fits
-
-same-length : tie.Need-same-length
-same-length c = search needs
 
 returns-2 : tie.Need-returns-2
 unfolding behindOne
 returns-2 c = search a-mount
 
 pub put-mount-spec : {M : Type 1} → statement M
-put-mount-spec =
-    tie.close (tie.spec returns put-fixed-requires put-name-requires same-length returns-2)
+put-mount-spec = tie.close (tie.spec returns (search needs) put-name-requires (search needs) returns-2)

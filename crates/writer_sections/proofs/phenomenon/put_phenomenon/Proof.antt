@@ -10,14 +10,8 @@ put-named-requires c κs = search phenomenon-number
 put-volcano-requires : tie.Need-put-volcano-requires
 put-volcano-requires c κs = search has-volcano
 
-same-length : tie.Need-same-length
-same-length c = search needs
-
 returns : tie.Need-returns
 returns c = search erupted
-
-same-length-2 : tie.Need-same-length-2
-same-length-2 c = search needs
 
 returns-2 : tie.Need-returns-2
 returns-2 c = search not-erupted
@@ -25,4 +19,4 @@ returns-2 c = search not-erupted
 pub put-phenomenon-spec : {M : Type 1} → statement M
 put-phenomenon-spec =
     tie.close
-    (tie.spec put-named-requires put-volcano-requires same-length returns same-length-2 returns-2)
+    (tie.spec put-named-requires put-volcano-requires (search needs) returns (search needs) returns-2)

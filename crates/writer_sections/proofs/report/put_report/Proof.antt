@@ -9,20 +9,11 @@ use Rattle.writer_sections.proofs.report.put_report.Tie as tie
 put-phenomenon-requires : tie.Need-put-phenomenon-requires
 put-phenomenon-requires c κs = search report-phenomenon
 
-put-observation-requires : tie.Need-put-observation-requires
-put-observation-requires c κs = search needs
-
 put-extent-requires : tie.Need-put-extent-requires
 put-extent-requires c κs = search report-extent
 
-put-level-requires : tie.Need-put-level-requires
-put-level-requires c κs = search needs
-
 put-ending-requires : tie.Need-put-ending-requires
 put-ending-requires c κs = search report-ending
-
-same-length : tie.Need-same-length
-same-length c = search needs
 
 returns : tie.Need-returns
 unfolding reportWords
@@ -31,11 +22,5 @@ returns c = search and-then
 pub put-report-spec : {M : Type 1} → statement M
 put-report-spec =
     tie.close
-    (tie.spec
-    put-phenomenon-requires
-    put-observation-requires
-    put-extent-requires
-    put-level-requires
-    put-ending-requires
-    same-length
-    returns)
+    (tie.spec put-phenomenon-requires (search needs) put-extent-requires (search needs) put-ending-requires
+    (search needs) returns)
