@@ -23,7 +23,7 @@ use Rattle.levels.specs.Levels.{feetFigures}
 use Rattle.motions.specs.Motions.{spellCompass, spellIntensity}
 use Rattle.motions.specs.Speeds.{spellSpeed}
 use Rattle.motions.specs.declared.Speed.{Speed}
-use Rattle.message.specs.Limits.{mountainLimit}
+use Rattle.message.specs.Limits.{mountainLimit, cta}
 use Rattle.message.specs.Locations.{joined, extentWords}
 use Rattle.message.specs.Names.{goodName, emptyName}
 use Rattle.message.specs.Reports.{phenomena, goodPhenomenon, goodEnding, goodReport}
@@ -67,7 +67,7 @@ testWords n = getD testTexts (n - 1) []
 abbrev pub cancellationWords : Sequence → Group → Group → List (List ℕ)
 cancellationWords s from to = bytes "CNL" ∷ bytes "SIGMET" ∷ spellSequence s ∷ spellPeriod (record { from = from; to = to }) ∷ []
 
--- a phenomenon's words by its number, and the first and second of them
+-- a phenomenon's words by its number, without the volcano of an eruption; and the first and second of them
 abbrev pub namedWords : ℕ → List (List ℕ)
 namedWords n = getD phenomena (n - 1) []
 
@@ -76,6 +76,10 @@ firstWord n = getD (namedWords n) 0 []
 
 abbrev pub secondWord : ℕ → List ℕ
 secondWord n = getD (namedWords n) 1 []
+
+-- the number of `SEV ICE (FZRA)`
+abbrev pub freezingRain : ℕ
+freezingRain = 11
 
 -- `OBS` or `FCST`
 abbrev pub observedWord : ℕ → List ℕ
@@ -88,6 +92,14 @@ axisOf width = record { width = width; greatest = 0; plus = 0; minus = 0 }
 -- "`WI` and 4 to 7 points joined by the word `-`"
 abbrev pub outlineWords : ℕ → List Point → List (List ℕ)
 outlineWords n points = bytes "WI" ∷ joined (take n points)
+
+-- what the entire area is called, by the area's closing word
+abbrev pub entireWord : ℕ → List ℕ
+entireWord closing = pick (eqb closing cta) (bytes "CTA") (bytes "FIR")
+
+-- `FLnnn`
+abbrev pub flightWord : ℕ → List ℕ
+flightWord n = bytes "FL" ++ inFigures 3 n
 
 -- `SFC/` and a number in so many figures
 abbrev pub surfaceWord : ℕ → ℕ → List ℕ

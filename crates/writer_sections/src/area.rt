@@ -1,21 +1,24 @@
-// The area: four letters, a name and the closing word.
-ghost use mathlib.Core.List.{[], _∷_};
+// The area: four letters, its name, and the closing word `FIR`, `FIR/UIR` or `CTA`.
+ghost use mathlib.Core.Path.{_≡_};
 ghost use Prim.Native.Nat.{_≤_};
+ghost use Rattle.figures.specs.Codes.{spellCode};
 ghost use Rattle.figures.specs.Tables.{numbered};
 ghost use Rattle.names.specs.Names.{closingWords};
+ghost use Rattle.message.specs.Limits.{nameBytes};
 ghost use Rattle.message.specs.Names.{nameWords};
 ghost use Rattle.message.specs.Words.{areaWords};
-ghost use mathlib.Core.Path.{_≡_};
-ghost use Rattle.pens.specs.Pens.{Words, Line, packed};
+ghost use Rattle.pens.specs.Pens.{Words, Line};
+use crate::NO_WORD;
 use message::Area;
 use message::Name;
-use pens::put_letters;
-use pens::put_short;
+use names::CLOSED_BY_CTA;
+use pens::put_big_endian;
+use pens::put_fixed;
 use pens::put_word;
 
-// The words of a name, which stand in the record with their spaces.
+// The words of a name. The record keeps them as one text with single spaces, so that a space before it is all that is missing.
 pub(crate) fn put_name(out: &mut [u8], at: usize, n: Name) -> usize
-    requires { ⌜ n .count ≤ 50 ⌝ }
+    requires { ⌜ n .count ≤ nameBytes ⌝ }
     ensures { λ r. ⌜ Words (nameWords n) at (now (out .entry)) r (now (out .exit)) ⌝ }
 {
     let text = n.bytes;
@@ -23,36 +26,24 @@ pub(crate) fn put_name(out: &mut [u8], at: usize, n: Name) -> usize
     put_word(out, at, &text[..count])
 }
 
-// Words of at most eight bytes, each kept as one number in base 256.
-const FIR: u64 = 0x46_49_52;
-
-const FIR_UIR: u64 = 0x46_49_52_2f_55_49_52;
-
-const CTA: u64 = 0x43_54_41;
-
+// The word with which an area closes.
 fn closing_word(n: u8) -> u64
-    ensures { λ r. ⌜ packed r ≡ numbered 1 closingWords n ⌝ }
+    ensures { λ r. ⌜ spellCode r ≡ numbered 1 closingWords n ⌝ }
 {
     match n {
-        1 => FIR,
-        2 => FIR_UIR,
-        3 => CTA,
-        _ => 0,
+        1 => vocabulary::FIR,
+        2 => vocabulary::FIR_UIR,
+        CLOSED_BY_CTA => vocabulary::CTA,
+        _ => NO_WORD,
     }
 }
 
-fn put_closing(out: &mut [u8], at: usize, n: u8) -> usize
-    ensures { λ r. ⌜ Words (numbered 1 closingWords n ∷ []) at (now (out .entry)) r (now (out .exit)) ⌝ }
-{
-    put_short(out, at, closing_word(n))
-}
-
 pub(crate) fn put_area(out: &mut [u8], at: usize, a: Area) -> usize
-    requires { ⌜ a .name .count ≤ 50 ⌝ }
+    requires { ⌜ a .name .count ≤ nameBytes ⌝ }
     ensures { λ r. ⌜ Line (areaWords a) at (now (out .entry)) r (now (out .exit)) ⌝ }
 {
     let name = a.name;
-    let b = put_letters(out, at, a.indicator, 4);
-    let c = put_name(out, b, name);
-    put_closing(out, c, a.closing)
+    let indicator_end = put_big_endian(out, at, a.indicator, 4);
+    let name_end = put_name(out, indicator_end, name);
+    put_fixed(out, name_end, closing_word(a.closing))
 }

@@ -1,14 +1,16 @@
-// The ending: movement, no movement, or intensity and a forecast.
+// The ending: how the phenomenon moves, or that it does not, and its intensity; or its intensity and where it is forecast to be.
 ghost use mathlib.Core.Bool.{true};
 ghost use mathlib.Core.List.{[], _∷_};
 ghost use mathlib.Core.Path.{_≡_};
+ghost use Rattle.figures.specs.Codes.{spellCode};
 ghost use Rattle.figures.specs.Tables.{numbered};
 ghost use Rattle.message.specs.Locations.{goodExtent};
 ghost use Rattle.message.specs.Reports.{endingWords};
 ghost use Rattle.motions.specs.Motions.{spellCompass, spellIntensity};
 ghost use Rattle.motions.specs.Speeds.{unitWords, spellSpeed};
-ghost use Rattle.pens.specs.Pens.{Puts, Words, packed};
+ghost use Rattle.pens.specs.Pens.{Words};
 ghost use Rattle.writer_sections.specs.Sections.{GoodEnding, movingWords, stationaryWords, forecastWords};
+use crate::NO_WORD;
 use crate::location::put_extent;
 use crate::observation::put_time;
 use groups::Time;
@@ -16,130 +18,85 @@ use message::Ending;
 use message::Extent;
 use motions::Speed;
 use pens::put;
-use pens::put_all;
+use pens::put_code;
 use pens::put_figures;
-use pens::put_short;
-use pens::put_word;
-
-// Words of at most eight letters, each kept as one number in base 256.
-const N: u64 = 0x4e;
-
-const NNE: u64 = 0x4e_4e_45;
-
-const NE: u64 = 0x4e_45;
-
-const ENE: u64 = 0x45_4e_45;
-
-const E: u64 = 0x45;
-
-const ESE: u64 = 0x45_53_45;
-
-const SE: u64 = 0x53_45;
-
-const SSE: u64 = 0x53_53_45;
-
-const S: u64 = 0x53;
-
-const SSW: u64 = 0x53_53_57;
-
-const SW: u64 = 0x53_57;
-
-const WSW: u64 = 0x57_53_57;
-
-const W: u64 = 0x57;
-
-const WNW: u64 = 0x57_4e_57;
-
-const NW: u64 = 0x4e_57;
-
-const NNW: u64 = 0x4e_4e_57;
-
-const INTSF: u64 = 0x49_4e_54_53_46;
-
-const WKN: u64 = 0x57_4b_4e;
-
-const NC: u64 = 0x4e_43;
+use pens::put_fixed;
 
 // The sixteen points of the compass are numbered 0 (N) to 15 (NNW), clockwise.
-fn compass(direction: u8) -> u64
-    ensures { λ r. ⌜ packed r ≡ spellCompass direction ⌝ }
+fn compass_word(direction: u8) -> u64
+    ensures { λ r. ⌜ spellCode r ≡ spellCompass direction ⌝ }
 {
     match direction {
-        0 => N,
-        1 => NNE,
-        2 => NE,
-        3 => ENE,
-        4 => E,
-        5 => ESE,
-        6 => SE,
-        7 => SSE,
-        8 => S,
-        9 => SSW,
-        10 => SW,
-        11 => WSW,
-        12 => W,
-        13 => WNW,
-        14 => NW,
-        15 => NNW,
-        16..=255 => 0,
+        0 => vocabulary::N,
+        1 => vocabulary::NNE,
+        2 => vocabulary::NE,
+        3 => vocabulary::ENE,
+        4 => vocabulary::E,
+        5 => vocabulary::ESE,
+        6 => vocabulary::SE,
+        7 => vocabulary::SSE,
+        8 => vocabulary::S,
+        9 => vocabulary::SSW,
+        10 => vocabulary::SW,
+        11 => vocabulary::WSW,
+        12 => vocabulary::W,
+        13 => vocabulary::WNW,
+        14 => vocabulary::NW,
+        15 => vocabulary::NNW,
+        16..=255 => NO_WORD,
     }
 }
 
-fn put_compass(out: &mut [u8], at: usize, direction: u8) -> usize
-    ensures { λ r. ⌜ Words (spellCompass direction ∷ []) at (now (out .entry)) r (now (out .exit)) ⌝ }
-{
-    put_short(out, at, compass(direction))
-}
-
 fn intensity_word(n: u8) -> u64
-    ensures { λ r. ⌜ packed r ≡ spellIntensity n ⌝ }
+    ensures { λ r. ⌜ spellCode r ≡ spellIntensity n ⌝ }
 {
     match n {
-        1 => INTSF,
-        2 => WKN,
-        3 => NC,
-        _ => 0,
+        1 => vocabulary::INTSF,
+        2 => vocabulary::WKN,
+        3 => vocabulary::NC,
+        _ => NO_WORD,
     }
 }
 
 fn put_intensity(out: &mut [u8], at: usize, n: u8) -> usize
     ensures { λ r. ⌜ Words (spellIntensity n ∷ []) at (now (out .entry)) r (now (out .exit)) ⌝ }
 {
-    put_short(out, at, intensity_word(n))
+    put_fixed(out, at, intensity_word(n))
 }
 
-fn put_unit(out: &mut [u8], at: usize, n: u8) -> usize
-    ensures { λ r. ⌜ Puts (numbered 1 unitWords n) at (now (out .entry)) r (now (out .exit)) ⌝ }
+fn unit_word(n: u8) -> u64
+    ensures { λ r. ⌜ spellCode r ≡ numbered 1 unitWords n ⌝ }
 {
     match n {
-        1 => put_all(out, at, b"KT"),
-        2 => put_all(out, at, b"KMH"),
-        _ => at,
+        1 => vocabulary::KT,
+        2 => vocabulary::KMH,
+        _ => NO_WORD,
     }
 }
 
+// Two figures and the unit, in one word.
 fn put_speed(out: &mut [u8], at: usize, s: Speed) -> usize
     ensures { λ r. ⌜ Words (spellSpeed s ∷ []) at (now (out .entry)) r (now (out .exit)) ⌝ }
 {
-    let a = put(out, at, b' ');
-    let b = put_figures(out, a, s.value as u32, 2);
-    put_unit(out, b, s.unit)
+    let start = put(out, at, b' ');
+    let value_end = put_figures(out, start, s.value as u32, 2);
+    put_code(out, value_end, unit_word(s.unit))
 }
 
 fn put_moving(out: &mut [u8], at: usize, direction: u8, s: Speed, intensity: u8) -> usize
     ensures { λ r. ⌜ Words (movingWords direction s intensity) at (now (out .entry)) r (now (out .exit)) ⌝ }
 {
-    let a = put_word(out, at, b"MOV");
-    let b = put_compass(out, a, direction);
-    let c = put_speed(out, b, s);
-    put_intensity(out, c, intensity)
+    let moving_end = put_fixed(out, at, vocabulary::MOV);
+    let direction_end = put_fixed(out, moving_end, compass_word(direction));
+    let speed_end = put_speed(out, direction_end, s);
+    put_intensity(out, speed_end, intensity)
 }
 
 fn put_stationary(out: &mut [u8], at: usize, intensity: u8) -> usize
     ensures { λ r. ⌜ Words (stationaryWords intensity) at (now (out .entry)) r (now (out .exit)) ⌝ }
 {
-    let next = put_word(out, at, b"STNR");
-    put_intensity(out, next, intensity)
+    let stationary_end = put_fixed(out, at, vocabulary::STNR);
+    put_intensity(out, stationary_end, intensity)
 }
 
 fn put_forecast(
@@ -153,12 +110,14 @@ fn put_forecast(
     requires { ⌜ goodExtent forecast ≡ true ⌝ }
     ensures { λ r. ⌜ Words (forecastWords end closing intensity forecast) at (now (out .entry)) r (now (out .exit)) ⌝ }
 {
-    let a = put_intensity(out, at, intensity);
-    let b = put_word(out, a, b"FCST AT");
-    let c = put_time(out, b, end);
-    put_extent(out, c, closing, forecast)
+    let intensity_end = put_intensity(out, at, intensity);
+    let forecast_end = put_fixed(out, intensity_end, vocabulary::FCST);
+    let time_start = put_fixed(out, forecast_end, vocabulary::AT);
+    let time_end = put_time(out, time_start, end);
+    put_extent(out, time_end, closing, forecast)
 }
 
+// The end of VALID is the time of a forecast; the area's closing word tells what the entire area is called.
 pub(crate) fn put_ending(
     out: &mut [u8],
     at: usize,

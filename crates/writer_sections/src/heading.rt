@@ -1,64 +1,71 @@
-// The heading and the first line.
+// The heading: designator, centre, the group of day and time at which it was sent, and perhaps a correction.
 ghost use mathlib.Core.List.{[], _∷_};
+ghost use mathlib.Core.Path.{_≡_};
+ghost use Rattle.figures.specs.Codes.{spellCode};
 ghost use Rattle.figures.specs.Letters.{inLetters};
 ghost use Rattle.figures.specs.Tables.{numbered};
-ghost use Rattle.groups.specs.Groups.{spellGroup, spellPeriod};
-ghost use Rattle.headings.specs.Headings.{typeWords, spellDesignator, spellOffice};
-ghost use Rattle.headings.specs.Sequences.{letterOf, spellSequence};
-ghost use Rattle.message.specs.Words.{correctionWords, headingWords, lineWords};
+ghost use Rattle.groups.specs.Groups.{spellGroup};
+ghost use Rattle.headings.specs.Headings.{typeWords, spellDesignator};
+ghost use Rattle.message.specs.Words.{correctionWords, headingWords};
 ghost use Rattle.pens.specs.Pens.{Puts, Words, Line};
+use crate::NO_WORD;
 use groups::Group;
-use groups::Period;
 use headings::Designator;
-use headings::Sequence;
-use message::FirstLine;
+use headings::KIND_WS;
+use headings::KIND_WV;
 use message::Heading;
 use pens::put;
-use pens::put_all;
+use pens::put_big_endian;
+use pens::put_code;
 use pens::put_figures;
-use pens::put_letters;
 use pens::put_word;
 
-fn put_type(out: &mut [u8], at: usize, kind: u8) -> usize
-    ensures { λ r. ⌜ Puts (numbered 2 typeWords kind) at (now (out .entry)) r (now (out .exit)) ⌝ }
+// The type of bulletin by its kind.
+fn type_word(kind: u8) -> u64
+    ensures { λ r. ⌜ spellCode r ≡ numbered 2 typeWords kind ⌝ }
 {
     match kind {
-        2 => put_all(out, at, b"WS"),
-        3 => put_all(out, at, b"WV"),
-        _ => at,
+        KIND_WS => vocabulary::WS,
+        KIND_WV => vocabulary::WV,
+        _ => NO_WORD,
     }
 }
 
+// The type, two letters and two figures, in one word: the first of the text, with no space before it.
 fn put_designator(out: &mut [u8], at: usize, d: Designator) -> usize
     ensures { λ r. ⌜ Puts (spellDesignator d) at (now (out .entry)) r (now (out .exit)) ⌝ }
 {
-    let a = put_type(out, at, d.kind);
-    let b = put_letters(out, a, d.region, 2);
-    put_figures(out, b, d.number as u32, 2)
+    let type_end = put_code(out, at, type_word(d.kind));
+    let region_end = put_big_endian(out, type_end, d.region, 2);
+    put_figures(out, region_end, d.number as u32, 2)
 }
 
-fn put_four(out: &mut [u8], at: usize, letters: u32) -> usize
+// A word of four letters, which a record keeps as one number.
+pub(crate) fn put_four(out: &mut [u8], at: usize, letters: u32) -> usize
     ensures { λ r. ⌜ Words (inLetters 4 letters ∷ []) at (now (out .entry)) r (now (out .exit)) ⌝ }
 {
-    let next = put(out, at, b' ');
-    put_letters(out, next, letters, 4)
+    let start = put(out, at, b' ');
+    put_big_endian(out, start, letters, 4)
 }
 
-fn put_group(out: &mut [u8], at: usize, g: Group) -> usize
+// Day, hour and minute in six figures, without a space before them.
+pub(crate) fn put_group(out: &mut [u8], at: usize, g: Group) -> usize
     ensures { λ r. ⌜ Puts (spellGroup g) at (now (out .entry)) r (now (out .exit)) ⌝ }
 {
-    let a = put_figures(out, at, g.day as u32, 2);
-    let b = put_figures(out, a, g.hour as u32, 2);
-    put_figures(out, b, g.minute as u32, 2)
+    let day_end = put_figures(out, at, g.day as u32, 2);
+    let hour_end = put_figures(out, day_end, g.hour as u32, 2);
+    put_figures(out, hour_end, g.minute as u32, 2)
 }
 
+// The same as a word of its own.
 fn put_sent(out: &mut [u8], at: usize, g: Group) -> usize
     ensures { λ r. ⌜ Words (spellGroup g ∷ []) at (now (out .entry)) r (now (out .exit)) ⌝ }
 {
-    let next = put(out, at, b' ');
-    put_group(out, next, g)
+    let start = put(out, at, b' ');
+    put_group(out, start, g)
 }
 
+// `CCA` to `CCX` by the last letter; letter 0 is no correction.
 fn put_correction(out: &mut [u8], at: usize, letter: u8) -> usize
     ensures { λ r. ⌜ Words (correctionWords letter) at (now (out .entry)) r (now (out .exit)) ⌝ }
 {
@@ -74,56 +81,8 @@ pub(crate) fn put_heading(out: &mut [u8], at: usize, h: Heading) -> usize
 {
     let designator = h.designator;
     let sent = h.sent;
-    let a = put_designator(out, at, designator);
-    let b = put_four(out, a, h.centre);
-    let c = put_sent(out, b, sent);
-    put_correction(out, c, h.correction)
-}
-
-fn put_letter(out: &mut [u8], at: usize, letter: u8) -> usize
-    ensures { λ r. ⌜ Puts (letterOf letter) at (now (out .entry)) r (now (out .exit)) ⌝ }
-{
-    if letter == 0 {
-        return at;
-    }
-    put(out, at, letter)
-}
-
-pub(crate) fn put_sequence(out: &mut [u8], at: usize, s: Sequence) -> usize
-    ensures { λ r. ⌜ Words (spellSequence s ∷ []) at (now (out .entry)) r (now (out .exit)) ⌝ }
-{
-    let a = put(out, at, b' ');
-    let b = put_letter(out, a, s.letter);
-    put_figures(out, b, s.number as u32, s.digits)
-}
-
-pub(crate) fn put_period(out: &mut [u8], at: usize, p: Period) -> usize
-    ensures { λ r. ⌜ Words (spellPeriod p ∷ []) at (now (out .entry)) r (now (out .exit)) ⌝ }
-{
-    let from = p.from;
-    let to = p.to;
-    let a = put(out, at, b' ');
-    let b = put_group(out, a, from);
-    let c = put(out, b, b'/');
-    put_group(out, c, to)
-}
-
-fn put_office(out: &mut [u8], at: usize, letters: u32) -> usize
-    ensures { λ r. ⌜ Words (spellOffice letters ∷ []) at (now (out .entry)) r (now (out .exit)) ⌝ }
-{
-    let next = put_four(out, at, letters);
-    put(out, next, b'-')
-}
-
-pub(crate) fn put_line(out: &mut [u8], at: usize, l: FirstLine) -> usize
-    ensures { λ r. ⌜ Line (lineWords l) at (now (out .entry)) r (now (out .exit)) ⌝ }
-{
-    let sequence = l.sequence;
-    let valid = l.valid;
-    let a = put_letters(out, at, l.unit, 4);
-    let b = put_word(out, a, b"SIGMET");
-    let c = put_sequence(out, b, sequence);
-    let d = put_word(out, c, b"VALID");
-    let e = put_period(out, d, valid);
-    put_office(out, e, l.office)
+    let designator_end = put_designator(out, at, designator);
+    let centre_end = put_four(out, designator_end, h.centre);
+    let sent_end = put_sent(out, centre_end, sent);
+    put_correction(out, sent_end, h.correction)
 }

@@ -6,9 +6,11 @@ ghost use Prim.Native.Nat.{_≤_};
 ghost use lib.ListN.{take};
 ghost use Rattle.coordinates.specs.Coordinates.{spellCoordinate};
 ghost use Rattle.coordinates.specs.Points.{pointWords};
+ghost use Rattle.figures.specs.Codes.{spellCode};
+ghost use Rattle.message.specs.Limits.{mostPoints};
 ghost use Rattle.message.specs.Locations.{goodBound, goodExtent, sideWords, boundWords, joined, entireWords, extentWords};
 ghost use Rattle.pens.specs.Pens.{Words};
-ghost use Rattle.writer_sections.specs.Sections.{axisOf, outlineWords};
+ghost use Rattle.writer_sections.specs.Sections.{axisOf, entireWord, outlineWords};
 use coordinates::Coordinate;
 use coordinates::Point;
 use message::Bound;
@@ -16,21 +18,27 @@ use message::Extent;
 use message::Location;
 use message::MOST_POINTS;
 use message::Side;
+use names::CLOSED_BY_CTA;
 use pens::put;
 use pens::put_figures;
-use pens::put_word;
+use pens::put_fixed;
 
-// A coordinate whose degrees have so many figures.
-fn put_coordinate(out: &mut [u8], at: usize, c: Coordinate, width: u8) -> usize
-    ensures { λ r. ⌜ Words (spellCoordinate (axisOf width) c ∷ []) at (now (out .entry)) r (now (out .exit)) ⌝ }
+// How many figures the degrees of a latitude and of a longitude have.
+const LATITUDE_FIGURES: u8 = 2;
+
+const LONGITUDE_FIGURES: u8 = 3;
+
+// A coordinate whose degrees have so many figures. Its minutes are put where they were written: where it has more figures than that.
+fn put_coordinate(out: &mut [u8], at: usize, c: Coordinate, figures: u8) -> usize
+    ensures { λ r. ⌜ Words (spellCoordinate (axisOf figures) c ∷ []) at (now (out .entry)) r (now (out .exit)) ⌝ }
 {
-    let a = put(out, at, b' ');
-    let b = put(out, a, c.letter);
-    let d = put_figures(out, b, c.degrees as u32, width);
-    if c.digits == width {
-        return d;
+    let start = put(out, at, b' ');
+    let letter_end = put(out, start, c.letter);
+    let degrees_end = put_figures(out, letter_end, c.degrees as u32, figures);
+    if c.digits == figures {
+        return degrees_end;
     }
-    put_figures(out, d, c.minutes as u32, 2)
+    put_figures(out, degrees_end, c.minutes as u32, 2)
 }
 
 pub(crate) fn put_point(out: &mut [u8], at: usize, p: Point) -> usize
@@ -38,21 +46,22 @@ pub(crate) fn put_point(out: &mut [u8], at: usize, p: Point) -> usize
 {
     let latitude = p.latitude;
     let longitude = p.longitude;
-    let next = put_coordinate(out, at, latitude, 2);
-    put_coordinate(out, next, longitude, 3)
+    let latitude_end = put_coordinate(out, at, latitude, LATITUDE_FIGURES);
+    put_coordinate(out, latitude_end, longitude, LONGITUDE_FIGURES)
 }
 
-// `N`, `OF`, the coordinate.
-fn put_side(out: &mut [u8], at: usize, s: Side, width: u8) -> usize
-    ensures { λ r. ⌜ Words (sideWords (axisOf width) s) at (now (out .entry)) r (now (out .exit)) ⌝ }
+// One side of a bound: `N`, `S`, `E` or `W`, then `OF` and the coordinate.
+fn put_side(out: &mut [u8], at: usize, s: Side, figures: u8) -> usize
+    ensures { λ r. ⌜ Words (sideWords (axisOf figures) s) at (now (out .entry)) r (now (out .exit)) ⌝ }
 {
     let coordinate = s.at;
-    let a = put(out, at, b' ');
-    let b = put(out, a, s.of);
-    let c = put_word(out, b, b"OF");
-    put_coordinate(out, c, coordinate, width)
+    let start = put(out, at, b' ');
+    let letter_end = put(out, start, s.of);
+    let coordinate_start = put_fixed(out, letter_end, vocabulary::OF);
+    put_coordinate(out, coordinate_start, coordinate, figures)
 }
 
+// A latitude, a longitude, or both with `AND` between. A side whose letter is 0 is not there.
 fn put_bound(out: &mut [u8], at: usize, b: Bound) -> usize
     requires { ⌜ goodBound b ≡ true ⌝ }
     ensures { λ r. ⌜ Words (boundWords b) at (now (out .entry)) r (now (out .exit)) ⌝ }
@@ -60,46 +69,55 @@ fn put_bound(out: &mut [u8], at: usize, b: Bound) -> usize
     let latitude = b.latitude;
     let longitude = b.longitude;
     if latitude.of == 0 {
-        return put_side(out, at, longitude, 3);
+        return put_side(out, at, longitude, LONGITUDE_FIGURES);
     }
-    let next = put_side(out, at, latitude, 2);
+    let latitude_end = put_side(out, at, latitude, LATITUDE_FIGURES);
     if longitude.of == 0 {
-        return next;
+        return latitude_end;
     }
-    let and = put_word(out, next, b"AND");
-    put_side(out, and, longitude, 3)
+    let and_end = put_fixed(out, latitude_end, vocabulary::AND);
+    put_side(out, and_end, longitude, LONGITUDE_FIGURES)
 }
 
 // Points joined by the word `-`.
 fn put_points(out: &mut [u8], at: usize, count: usize, points: [Point; MOST_POINTS]) -> usize
-    requires { ⌜ (1 ≤ count) × (count ≤ 7) ⌝ }
+    requires { ⌜ (1 ≤ count) × (count ≤ mostPoints) ⌝ }
     ensures { λ r. ⌜ Words (joined (take count points)) at (now (out .entry)) r (now (out .exit)) ⌝ }
 {
     let mut next = put_point(out, at, points[0]);
     let mut i = 1;
     while i < count {
-        next = put_word(out, next, b"-");
+        next = put_fixed(out, next, vocabulary::DASH);
         next = put_point(out, next, points[i]);
         i += 1;
     }
     next
 }
 
+// `WI` and the points.
 fn put_outline(out: &mut [u8], at: usize, n: u8, points: [Point; MOST_POINTS]) -> usize
-    requires { ⌜ (1 ≤ n) × (n ≤ 7) ⌝ }
+    requires { ⌜ (1 ≤ n) × (n ≤ mostPoints) ⌝ }
     ensures { λ r. ⌜ Words (outlineWords n points) at (now (out .entry)) r (now (out .exit)) ⌝ }
 {
-    let next = put_word(out, at, b"WI");
-    put_points(out, next, n as usize, points)
+    let within_end = put_fixed(out, at, vocabulary::WI);
+    put_points(out, within_end, n as usize, points)
+}
+
+// What the entire area is called: `CTA` where the area's name closes with that word, and `FIR` otherwise.
+fn entire_word(closing: u8) -> u64
+    ensures { λ r. ⌜ spellCode r ≡ entireWord closing ⌝ }
+{
+    match closing {
+        CLOSED_BY_CTA => vocabulary::CTA,
+        _ => vocabulary::FIR,
+    }
 }
 
 fn put_entire(out: &mut [u8], at: usize, closing: u8) -> usize
     ensures { λ r. ⌜ Words (entireWords closing) at (now (out .entry)) r (now (out .exit)) ⌝ }
 {
-    match closing {
-        3 => put_word(out, at, b"ENTIRE CTA"),
-        _ => put_word(out, at, b"ENTIRE FIR"),
-    }
+    let entire_end = put_fixed(out, at, vocabulary::ENTIRE);
+    put_fixed(out, entire_end, entire_word(closing))
 }
 
 pub(crate) fn put_extent(out: &mut [u8], at: usize, closing: u8, e: Extent) -> usize

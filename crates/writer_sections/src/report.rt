@@ -20,9 +20,9 @@ pub(crate) fn put_report(out: &mut [u8], at: usize, end: Time, closing: u8, r: R
     let level = r.level;
     let ending = r.ending;
     let forecast = r.forecast;
-    let a = put_phenomenon(out, at, r.phenomenon, volcano);
-    let b = put_observation(out, a, observation);
-    let c = put_extent(out, b, closing, extent);
-    let d = put_level(out, c, level);
-    put_ending(out, d, end, closing, ending, forecast)
+    let phenomenon_end = put_phenomenon(out, at, r.phenomenon, volcano);
+    let observation_end = put_observation(out, phenomenon_end, observation);
+    let extent_end = put_extent(out, observation_end, closing, extent);
+    let level_end = put_level(out, extent_end, level);
+    put_ending(out, level_end, end, closing, ending, forecast)
 }

@@ -1,21 +1,11 @@
 -- `put_intensity` meets its contract: the word is that of `intensity_word`. Assumes nothing.
-use Rattle.pens.proofs.PenLaws.{told}
 use borrow.Author.Needs.{needs}
+use Rattle.pens.proofs.PenLaws.{renamed}
 use Rattle.writer_sections.proofs.ending.put_intensity.Statement.{statement}
 use Rattle.writer_sections.proofs.ending.put_intensity.Tie as tie
 
-intensity-word-requires : tie.Need-intensity-word-requires
-intensity-word-requires c κs = search needs
-
-put-short-requires : tie.Need-put-short-requires
-put-short-requires c κs = search needs
-
-same-length : tie.Need-same-length
-same-length c = search needs
-
 returns : tie.Need-returns
-returns c = told (c .before .before .before .intensity-word .ensures) (c .before .before .put-short .ensures)
+returns c = search renamed
 
 pub put-intensity-spec : {M : Type 1} → statement M
-put-intensity-spec =
-    tie.close (tie.spec intensity-word-requires put-short-requires same-length returns)
+put-intensity-spec = tie.close (tie.spec (search needs) (search needs) (search needs) returns)

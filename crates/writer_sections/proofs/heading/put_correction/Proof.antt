@@ -1,37 +1,16 @@
 -- `put_correction` meets its contract: none has no word, and a letter goes behind `CC`. Assumes nothing.
-use borrow.Author.Tests.{ne-eqb}
-use Rattle.pens.proofs.PenLaws.{no-words, goes-on}
 use borrow.Author.Needs.{needs}
+use Rattle.writer_sections.proofs.SectionLaws.{no-correction, a-correction}
 use Rattle.writer_sections.proofs.heading.put_correction.Statement.{statement}
 use Rattle.writer_sections.proofs.heading.put_correction.Tie as tie
 
 returns : tie.Need-returns
-returns c = rw (c .if1 .taken) no-words
-
-slice-aggregate-put-word : tie.Need-slice-aggregate-put-word
-slice-aggregate-put-word c = search needs
-
-put-word-requires : tie.Need-put-word-requires
-put-word-requires c κs = search needs
-
-put-requires : tie.Need-put-requires
-put-requires c κs = search needs
-
-same-length : tie.Need-same-length
-same-length c = search needs
+returns c = search no-correction
 
 returns-2 : tie.Need-returns-2
-returns-2 c =
-    rw (ne-eqb _ 0 (c .before .before .before .before .before .before .before .before .before .if1 .left)) (goes-on
-    (c .before .before .before .before .before .before .put-word .ensures) (c .before .before .put .ensures))
+returns-2 c = search a-correction
 
 pub put-correction-spec : {M : Type 1} → statement M
 put-correction-spec =
     tie.close
-    (tie.spec
-    returns
-    slice-aggregate-put-word
-    put-word-requires
-    put-requires
-    same-length
-    returns-2)
+    (tie.spec returns (search needs) (search needs) (search needs) (search needs) returns-2)

@@ -1,34 +1,17 @@
 -- `put_feet` meets its contract: `FT` goes on from the figures, which are as many as the number asks. Assumes nothing.
-use Rattle.pens.proofs.PenLaws.{goes-on}
 use borrow.Author.Needs.{needs}
+use Rattle.figures.specs.Codes.{behindOne}
+use Rattle.pens.proofs.PenLaws.{goes-on}
 use Rattle.writer_sections.proofs.level.put_feet.Statement.{statement}
 use Rattle.writer_sections.proofs.level.put_feet.Tie as tie
 
-feet-figures-requires : tie.Need-feet-figures-requires
-feet-figures-requires c κs = search needs
-
-put-surface-requires : tie.Need-put-surface-requires
-put-surface-requires c κs = search needs
-
-slice-aggregate-put-all : tie.Need-slice-aggregate-put-all
-slice-aggregate-put-all c = search needs
-
-put-all-requires : tie.Need-put-all-requires
-put-all-requires c κs = search needs
-
-same-length : tie.Need-same-length
-same-length c = search needs
-
 returns : tie.Need-returns
-returns c = rw (← c .before .before .before .before .before .before .before .before .feet-figures .ensures) (goes-on (c .before .before .before .before .before .before .before .put-surface .ensures) (c .before .before .put-all .ensures))
+unfolding behindOne
+returns c =
+    let figures = c .before .before .before .before .before .before .before .feet-figures .ensures in
+    let number = c .before .before .before .before .before .before .put-surface .ensures in
+    let unit = c .before .before .put-code .ensures in
+    rw (← figures) (goes-on number unit)
 
 pub put-feet-spec : {M : Type 1} → statement M
-put-feet-spec =
-    tie.close
-    (tie.spec
-    feet-figures-requires
-    put-surface-requires
-    slice-aggregate-put-all
-    put-all-requires
-    same-length
-    returns)
+put-feet-spec = tie.close (tie.spec (search needs) (search needs) (search needs) (search needs) returns)

@@ -1,16 +1,13 @@
 -- `observed_word` meets its contract: number 1 is `OBS`, and any other `FCST`. Assumes nothing.
-use Rattle.pens.specs.Pens.{packedIn}
+use Rattle.figures.specs.Codes.{behindOne}
 use borrow.Author.Tests.{ne-eqb}
 use Rattle.writer_sections.proofs.observation.observed_word.Statement.{statement}
 use Rattle.writer_sections.proofs.observation.observed_word.Tie as tie
 
-returns : tie.Need-returns
-unfolding packedIn
-returns c = rw (c .match .keys1)
-
-returns-2 : tie.Need-returns-2
-unfolding packedIn
-returns-2 c = rw (ne-eqb _ 1 (c .match .rest .1))
-
 pub observed-word-spec : {M : Type 1} → statement M
-observed-word-spec = tie.close (tie.spec returns returns-2)
+unfolding behindOne
+observed-word-spec =
+    tie.close
+    (tie.spec
+    (λ c. rw (c .match .keys1))
+    (λ c. rw (ne-eqb _ 1 (c .match .rest .1))))
