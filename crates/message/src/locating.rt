@@ -5,6 +5,7 @@ ghost use lib.ListN.{take, drop};
 ghost use Rattle.lists.specs.Lists.{allOf};
 ghost use Rattle.coordinates.specs.Coordinates.{northSouth, eastWest};
 ghost use Rattle.coordinates.specs.Points.{goodPoint, emptyPoint};
+ghost use Rattle.message.specs.Limits.{mostPoints};
 ghost use Rattle.message.specs.Locations.{goodSide, emptySide, goodBound, noPoints, closingPoint, goodOutline, goodExtent, emptyExtent};
 use crate::Bound;
 use crate::Extent;
@@ -71,7 +72,7 @@ fn empty_from(points: [Point; MOST_POINTS], start: usize) -> bool
 
 // The first n points are all good.
 fn good_until(points: [Point; MOST_POINTS], n: usize) -> bool
-    requires { ⌜ n ≤ 7 ⌝ }
+    requires { ⌜ n ≤ mostPoints ⌝ }
     ensures { λ r. ⌜ r ≡ allOf goodPoint (take n points) ⌝ }
 {
     let mut i = 0;

@@ -5,6 +5,7 @@ ghost use lib.ListN.{length, take, drop};
 ghost use Rattle.lists.specs.Choice.{both as bothOf};
 ghost use Rattle.lists.specs.Lists.{allOf};
 ghost use Rattle.names.specs.Names.{nameText};
+ghost use Rattle.message.specs.Limits.{nameBytes};
 ghost use Rattle.message.specs.Names.{zeroByte, goodName, emptyName};
 use crate::Name;
 use lists::both;
@@ -33,7 +34,7 @@ fn names_and_zeros(b: &[u8], count: usize, mountain: bool) -> bool
 }
 
 pub(crate) fn good(n: Name, mountain: bool, limit: usize) -> bool
-    requires { ⌜ limit ≤ 50 ⌝ }
+    requires { ⌜ limit ≤ nameBytes ⌝ }
     ensures { λ r. ⌜ r ≡ goodName mountain limit n ⌝ }
 {
     let count = n.count;

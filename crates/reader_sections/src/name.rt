@@ -4,6 +4,7 @@ ghost use mathlib.Core.List.{_++_};
 ghost use mathlib.Core.Bool.{true};
 ghost use Prim.Native.Nat.{_+_, _<_, _≤_};
 ghost use lib.ListN.{length, take, drop};
+ghost use Rattle.message.specs.Limits.{nameBytes};
 ghost use Rattle.reader_sections.specs.Naming.{wordOn, BelongsSays, FirstSays, GrownSays, NameSays};
 ghost use Rattle.reader_sections.specs.Steps.{Stands};
 use crate::steps::Step;
@@ -21,7 +22,7 @@ pub(crate) struct NameRead {
 
 // The bytes with the word put in from a place on.
 fn put_word(bytes: [u8; NAME_BYTES], at: usize, w: &[u8]) -> [u8; NAME_BYTES]
-    requires { ⌜ at + length (now w) ≤ 50 ⌝ }
+    requires { ⌜ at + length (now w) ≤ nameBytes ⌝ }
     ensures { λ r. ⌜ r ≡ take at bytes ++ (now (w .entry) ++ drop (at + length (now (w .entry))) bytes) ⌝ }
 {
     let mut out = bytes;
@@ -36,7 +37,7 @@ fn put_word(bytes: [u8; NAME_BYTES], at: usize, w: &[u8]) -> [u8; NAME_BYTES]
 // Is the word at the step one of the name, and is there room for it behind the bytes that are used? The empty word of a refused step is in no name,
 // so that the step's number need not be looked at.
 fn belongs(text: &[u8], from: Step, used: usize, mountain: bool, limit: usize) -> bool
-    requires { ⌜ (Stands (now text) from) × (used ≤ 51) ⌝ }
+    requires { ⌜ (Stands (now text) from) × (used ≤ nameBytes + 1) ⌝ }
     ensures { λ r. ⌜ BelongsSays mountain limit used (now (text .entry)) from r ⌝ }
 {
     let start = from.place;
@@ -49,7 +50,7 @@ fn belongs(text: &[u8], from: Step, used: usize, mountain: bool, limit: usize) -
 
 // The name of the word at the step alone, if a name begins with it. If none does, the word will be refused, and what is kept of it says nothing.
 fn first_name(text: &[u8], from: Step, begins: bool) -> Name
-    requires { ⌜ (Stands (now text) from) × (begins ≡ true → length (wordOn (now text) from) ≤ 50) ⌝ }
+    requires { ⌜ (Stands (now text) from) × (begins ≡ true → length (wordOn (now text) from) ≤ nameBytes) ⌝ }
     ensures { λ r. ⌜ FirstSays (now (text .entry)) from begins r ⌝ }
 {
     let none = NO_NAME;
@@ -68,7 +69,7 @@ fn first_name(text: &[u8], from: Step, begins: bool) -> Name
 
 // The name with a space and the word after its text.
 fn grown_name(name: Name, w: &[u8]) -> Name
-    requires { ⌜ name .count + 1 + length (now w) ≤ 50 ⌝ }
+    requires { ⌜ name .count + 1 + length (now w) ≤ nameBytes ⌝ }
     ensures { λ r. ⌜ GrownSays name (now (w .entry)) r ⌝ }
 {
     let count = name.count;
@@ -90,7 +91,7 @@ pub(crate) fn read_name(
     limit: usize,
     refusal: u8,
 ) -> NameRead
-    requires { ⌜ (Stands (now text) from) × ((limit ≤ 50) × (0 < refusal)) ⌝ }
+    requires { ⌜ (Stands (now text) from) × ((limit ≤ nameBytes) × (0 < refusal)) ⌝ }
     ensures { λ r. ⌜ NameSays mountain limit refusal (now (text .entry)) from (r .step) (r .name) ⌝ }
 {
     let begins = belongs(text, from, 0, mountain, limit);

@@ -1,6 +1,7 @@
 // An outline: points joined by the word `-`. It ends at the first later point equal to point 1.
 ghost use Prim.Native.Nat.{_<_};
 ghost use mathlib.Core.List.{[]};
+ghost use Rattle.message.specs.Limits.{mostPoints};
 ghost use Rattle.grammar.specs.States.Placing.{atLatitude};
 ghost use Rattle.reader_sections.specs.Locations.{LocatedSays};
 ghost use Rattle.reader_sections.specs.Outlines.{FollowsSays, ClosesSays, LatitudeSays, LongitudeSays, PointSays};
@@ -33,7 +34,7 @@ struct PointRead {
 
 // May a point of that latitude follow so many points? The last that there is room for has the latitude of point 1.
 fn may_follow(first: Point, count: usize, c: Coordinate) -> bool
-    requires { ⌜ count < 7 ⌝ }
+    requires { ⌜ count < mostPoints ⌝ }
     ensures { λ r. ⌜ FollowsSays first count c r ⌝ }
 {
     if count == 0 {
@@ -54,7 +55,7 @@ fn closes(first: Point, count: usize, p: Point) -> bool
 }
 
 fn next_latitude(text: &[u8], from: Step, first: Point, count: usize, refusal: u8) -> CoordinateRead
-    requires { ⌜ (Stands (now text) from) × (count < 7) × (0 < refusal) ⌝ }
+    requires { ⌜ (Stands (now text) from) × (count < mostPoints) × (0 < refusal) ⌝ }
     ensures { λ r. ⌜ LatitudeSays first count refusal (now (text .entry)) from (r .step) (r .coordinate) ⌝ }
 {
     let start = from.place;
@@ -74,7 +75,7 @@ fn next_longitude(
     north: Coordinate,
     refusal: u8,
 ) -> PointRead
-    requires { ⌜ (Stands (now text) from) × (count < 7) × (0 < refusal) ⌝ }
+    requires { ⌜ (Stands (now text) from) × (count < mostPoints) × (0 < refusal) ⌝ }
     ensures { λ r. ⌜ LongitudeSays first count north refusal (now (text .entry)) from (r .step) (r .point) (r .closed) ⌝ }
 {
     let start = from.place;
@@ -100,7 +101,7 @@ fn next_longitude(
 
 // One more point, and the `-` after it where the outline is not closed.
 fn next_point(text: &[u8], from: Step, first: Point, count: usize, refusal: u8) -> PointRead
-    requires { ⌜ (Stands (now text) from) × (count < 7) × (0 < refusal) ⌝ }
+    requires { ⌜ (Stands (now text) from) × (count < mostPoints) × (0 < refusal) ⌝ }
     ensures { λ r. ⌜ PointSays first count refusal (now (text .entry)) from (r .step) (r .point) (r .closed) ⌝ }
 {
     let north = next_latitude(text, from, first, count, refusal);
