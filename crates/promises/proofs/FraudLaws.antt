@@ -74,7 +74,7 @@ one-listing-only (whole y i l) (early r k) = absurd (omega (arith, k, y .no-earl
 one-listing-only {h} {time} (whole y i l) (short z j k) =
     absurd (omega (arith, l, k, ap (λ (v : List Place). length (listing time v)) (one-listing i j)))
 one-listing-only {h} {time} {buffer = buffer} (whole y i l) (whole z j k) =
-    ap (λ (v : List Place). record { answer = 0; count = length (listing time v); buffer = listing time v ++ drop (length (listing time v)) buffer }) (one-listing i j)
+    ap (λ (v : List Place). record { number = 0; count = length (listing time v); buffer = listing time v ++ drop (length (listing time v)) buffer }) (one-listing i j)
 
 -- what can happen with one board that meets demand 3 can happen with any other that does
 follows : {A B : History → Type 0} → Demand3 A → Demand3 B → (h : History) → A h → B h

@@ -57,7 +57,7 @@ pub posts-so : {b after : Board} {clock answer : ℕ} {r : Record} → MayPost b
 posts-so m = m .allowed
 
 pub lists-so : {b : Board} {time answer count : ℕ} {buffer after : List ℕ} → MayList b time buffer answer count after
-    → record { answer = answer; count = count; buffer = after } ≡ listOf b time buffer
+    → record { number = answer; count = count; buffer = after } ≡ listOf b time buffer
 lists-so m = m .allowed
 
 -- The last call of a history, and the board that it was made of.
@@ -73,7 +73,7 @@ last-post (then-posted {b = b} run m) = record { board = b; run = run; says = ap
 record LastList (h : History) (time : ℕ) (buffer : List ℕ) (answer count : ℕ) (after : List ℕ) : Type 0 where
   board : Board
   run : Run h board
-  says : record { answer = answer; count = count; buffer = after } ≡ listOf board time buffer
+  says : record { number = answer; count = count; buffer = after } ≡ listOf board time buffer
 
 last-list : {h : History} {b : Board} {time answer count : ℕ} {buffer after : List ℕ} → Run (listed time buffer answer count after ∷ h) b → LastList h time buffer answer count after
 last-list (then-listed {b = b} run m) = record { board = b; run = run; says = lists-so m }

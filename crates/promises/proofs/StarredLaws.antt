@@ -33,7 +33,8 @@ use Rattle.board.specs.Boards.{distinct, goodPlaces, goodBoard, emptyBoard, ref
 use Rattle.places.specs.Claims.{reportPlace, targetPlace, ending, cancels, timed, claimOf}
 use Rattle.board.specs.Posts.{dropped, objection, spotOf, placeAt, settled, claimedOn, postOf}
 use Rattle.listing.specs.Rows.{inForce, selected, inserted, sortedAfter, rowsOf}
-use Rattle.listing.specs.Listings.{timeRecord, messageRecord, records, listingOf, tells, listOf}
+use Rattle.pens.specs.Outcomes.{written}
+use Rattle.listing.specs.Listings.{timeRecord, messageRecord, records, listingOf, listOf}
 use Rattle.board.specs.declared.Board.{Board}
 use Rattle.places.specs.declared.Identity.{Identity}
 use Rattle.places.specs.declared.Place.{Place}
@@ -86,24 +87,24 @@ twenty-ninth = refl
 abbrev pub sampleRecord : List ℕ
 sampleRecord = hex "02" ++ (hex "51424242" ++ (hex "312020" ++ (hex "20" ++ (hex "00C0FE5E" ++ hex "00C0FF4E"))))
 
-listed-then : listOf (boardAt samplePlace 12648030) 12648030 (page 22) ≡ tells (hex "01" ++ (hex "00C0FE5E" ++ sampleRecord)) (page 22)
+listed-then : listOf (boardAt samplePlace 12648030) 12648030 (page 22) ≡ written (hex "01" ++ (hex "00C0FE5E" ++ sampleRecord)) (page 22)
 unfolding opened listOf listingOf rowsOf selected inForce sortedAfter inserted records messageRecord timeRecord inPairs
 listed-then = refl
 
-listed-late : listOf (boardAt samplePlace 12648030) 12648269 (page 22) ≡ tells (hex "01" ++ (hex "00C0FF4D" ++ sampleRecord)) (page 22)
+listed-late : listOf (boardAt samplePlace 12648030) 12648269 (page 22) ≡ written (hex "01" ++ (hex "00C0FF4D" ++ sampleRecord)) (page 22)
 unfolding opened listOf listingOf rowsOf selected inForce sortedAfter inserted records messageRecord timeRecord inPairs
 listed-late = refl
 
-listed-over : listOf (boardAt samplePlace 12648030) 12648270 (page 22) ≡ tells (hex "01" ++ hex "00C0FF4E") (page 22)
+listed-over : listOf (boardAt samplePlace 12648030) 12648270 (page 22) ≡ written (hex "01" ++ hex "00C0FF4E") (page 22)
 unfolding opened listOf listingOf rowsOf selected inForce sortedAfter inserted records messageRecord timeRecord inPairs
 listed-over = refl
 
-pub listed-cancelled : listOf (boardAt cancelledPlace 12648180) 12648180 (page 22) ≡ tells (hex "01" ++ hex "00C0FEF4") (page 22)
+pub listed-cancelled : listOf (boardAt cancelledPlace 12648180) 12648180 (page 22) ≡ written (hex "01" ++ hex "00C0FEF4") (page 22)
 unfolding opened listOf listingOf rowsOf selected inForce sortedAfter inserted records messageRecord timeRecord inPairs
 listed-cancelled = refl
 
 -- the same at the minute of the cancellation, before it
-pub listed-meanwhile : listOf (boardAt samplePlace 12648030) 12648180 (page 22) ≡ tells (hex "01" ++ (hex "00C0FEF4" ++ sampleRecord)) (page 22)
+pub listed-meanwhile : listOf (boardAt samplePlace 12648030) 12648180 (page 22) ≡ written (hex "01" ++ (hex "00C0FEF4" ++ sampleRecord)) (page 22)
 unfolding opened listOf listingOf rowsOf selected inForce sortedAfter inserted records messageRecord timeRecord inPairs
 listed-meanwhile = refl
 

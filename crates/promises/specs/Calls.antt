@@ -39,7 +39,7 @@ pub record MayList (b : Board) (time : ℕ) (buffer : List ℕ) (answer count : 
   pub lent : Lfts 1
   pub address : ℕ × ℕ
   pub name : GName
-  pub allowed : list-reads.Learnt lent (b, (time, (slice address name buffer, tt))) (record { answer = answer; count = count }) (b, (time, (slice address name after, tt)))
+  pub allowed : list-reads.Learnt lent (b, (time, (slice address name buffer, tt))) (record { number = answer; count = count }) (b, (time, (slice address name after, tt)))
 
 -- "From an empty board, over all sequences of calls": each call is made on the board that the last post gave back
 pub data Run : History → Board → Type 0 where

@@ -22,7 +22,8 @@ use Rattle.calendar.specs.Instants.{startOf, endOf}
 use Rattle.board.specs.Boards.{emptyBoard}
 use Rattle.board.specs.Posts.{postOf}
 use Rattle.board.specs.declared.Board.{Board}
-use Rattle.listing.specs.Listings.{tells, listOf}
+use Rattle.pens.specs.Outcomes.{written}
+use Rattle.listing.specs.Listings.{listOf}
 
 -- bytes in hex: two figures each, 0 to 9 and A to F
 abbrev pub nibble : ℕ → ℕ
@@ -98,11 +99,11 @@ pub record Starred : Type 0 where
   -- "Sample posted then; listed at that minute, in hex: `01 00C0FE5E 02 51424242 312020 20 00C0FE5E 00C0FF4E`."
   pub posted : postOf emptyBoard 12648030 sample .answer ≡ 0
   pub listed : listOf withSample 12648030 (page 22)
-      ≡ tells (hex "01" ++ (hex "00C0FE5E" ++ (hex "02" ++ (hex "51424242" ++ (hex "312020" ++ (hex "20" ++ (hex "00C0FE5E" ++ hex "00C0FF4E"))))))) (page 22)
+      ≡ written (hex "01" ++ (hex "00C0FE5E" ++ (hex "02" ++ (hex "51424242" ++ (hex "312020" ++ (hex "20" ++ (hex "00C0FE5E" ++ hex "00C0FF4E"))))))) (page 22)
   -- "At 12,648,269 one message; at 12,648,270 only kind 1."
   pub last-minute : listOf withSample 12648269 (page 22)
-      ≡ tells (hex "01" ++ (hex "00C0FF4D" ++ (hex "02" ++ (hex "51424242" ++ (hex "312020" ++ (hex "20" ++ (hex "00C0FE5E" ++ hex "00C0FF4E"))))))) (page 22)
-  pub over : listOf withSample 12648270 (page 22) ≡ tells (hex "01" ++ hex "00C0FF4E") (page 22)
+      ≡ written (hex "01" ++ (hex "00C0FF4D" ++ (hex "02" ++ (hex "51424242" ++ (hex "312020" ++ (hex "20" ++ (hex "00C0FE5E" ++ hex "00C0FF4E"))))))) (page 22)
+  pub over : listOf withSample 12648270 (page 22) ≡ written (hex "01" ++ hex "00C0FF4E") (page 22)
   -- "Clock 12,709,380 (2024-02-29 2300Z), start 010100 is 12,709,500. Clock 2023-02-28 2300Z, start 290100: 18."
   pub the-29th : minuteOf 2024 2 29 23 0 ≡ 12709380
   pub leap-year : startOf 12709380 (dayAndTime 1 1 0) ≡ 12709500
@@ -112,6 +113,6 @@ pub record Starred : Type 0 where
   -- 12,648,181 the sample posted again gets 22, the cancellation posted again 21."
   pub cancellation-read : readOf (laterSaying "QBBB NORTH SOUND FIR CNL SIGMET 1 180830/181230=") ≡ acceptance cancelling
   pub cancelled : postOf withSample 12648180 cancelling .answer ≡ 0
-  pub off-the-list : listOf withCancellation 12648180 (page 22) ≡ tells (hex "01" ++ hex "00C0FEF4") (page 22)
+  pub off-the-list : listOf withCancellation 12648180 (page 22) ≡ written (hex "01" ++ hex "00C0FEF4") (page 22)
   pub late-copy : postOf withCancellation 12648181 sample .answer ≡ 22
   pub cancelled-again : postOf withCancellation 12648181 cancelling .answer ≡ 21
