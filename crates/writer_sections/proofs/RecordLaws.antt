@@ -12,6 +12,7 @@ use Rattle.message.specs.Limits.{nameBytes, mostPoints}
 use Rattle.message.specs.Locations.{goodBound, goodExtent, noPoints}
 use Rattle.message.specs.Records.{goodForm, good}
 use Rattle.message.specs.Words.{textOf}
+use Rattle.message.specs.Reports.{goodVolcano}
 use Rattle.message.specs.declared.Bound.{Bound}
 use Rattle.message.specs.declared.Ending.{Ending}
 use Rattle.message.specs.declared.Ending.the-variants.{Forecast}
@@ -22,7 +23,6 @@ use Rattle.message.specs.declared.Location.the-variants.{Bounded, Outline}
 use Rattle.message.specs.declared.Record.{Record}
 use Rattle.message.specs.declared.Report.{Report}
 use Rattle.message.specs.declared.Volcano.{Volcano}
-use Rattle.message.specs.Reports.{goodVolcano}
 use Rattle.message.proofs.Goodness.{good-parts, area-parts, name-parts, outline-parts, forecast-parts, report-parts, volcano-parts}
 use Rattle.pens.specs.Pens.{Puts}
 use Rattle.pens.proofs.PenLaws.{nothing}

@@ -26,10 +26,10 @@ use Rattle.coordinates.specs.declared.Point.{Point}
 use Rattle.groups.specs.Groups.{spellTime}
 use Rattle.groups.specs.declared.Time.{Time}
 use Rattle.headings.specs.Sequences.{letterOf}
-use Rattle.levels.specs.Levels.{levelWords}
-use Rattle.levels.specs.declared.Level.{Level}
 use Rattle.names.specs.Names.{onto, pieces}
 use Rattle.names.proofs.NameLaws.{pieces-some}
+use Rattle.levels.specs.Levels.{levelWords}
+use Rattle.levels.specs.declared.Level.{Level}
 use Rattle.message.specs.Limits.{nameBytes, mountainLimit, eruption}
 use Rattle.message.specs.Locations.{goodSide, emptySide, goodBound, sideWords, boundWords, dashed, joined, locationWords, extentWords}
 use Rattle.message.specs.Names.{goodName, emptyName, unusedZero, nameWords}

@@ -42,8 +42,7 @@ pub(crate) fn put_area(out: &mut [u8], at: usize, a: Area) -> usize
     requires { ⌜ a .name .count ≤ nameBytes ⌝ }
     ensures { λ r. ⌜ Line (areaWords a) at (now (out .entry)) r (now (out .exit)) ⌝ }
 {
-    let name = a.name;
     let indicator_end = put_big_endian(out, at, a.indicator, 4);
-    let name_end = put_name(out, indicator_end, name);
+    let name_end = put_name(out, indicator_end, a.name);
     put_fixed(out, name_end, closing_word(a.closing))
 }

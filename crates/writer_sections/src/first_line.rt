@@ -39,12 +39,10 @@ pub(crate) fn put_sequence(out: &mut [u8], at: usize, s: Sequence) -> usize
 pub(crate) fn put_period(out: &mut [u8], at: usize, p: Period) -> usize
     ensures { λ r. ⌜ Words (spellPeriod p ∷ []) at (now (out .entry)) r (now (out .exit)) ⌝ }
 {
-    let from = p.from;
-    let to = p.to;
     let start = put(out, at, b' ');
-    let from_end = put_group(out, start, from);
+    let from_end = put_group(out, start, p.from);
     let to_start = put(out, from_end, b'/');
-    put_group(out, to_start, to)
+    put_group(out, to_start, p.to)
 }
 
 // Four letters and a hyphen.
@@ -58,12 +56,10 @@ fn put_office(out: &mut [u8], at: usize, letters: u32) -> usize
 pub(crate) fn put_first_line(out: &mut [u8], at: usize, l: FirstLine) -> usize
     ensures { λ r. ⌜ Line (lineWords l) at (now (out .entry)) r (now (out .exit)) ⌝ }
 {
-    let sequence = l.sequence;
-    let valid = l.valid;
     let unit_end = put_big_endian(out, at, l.unit, 4);
     let sigmet_end = put_fixed(out, unit_end, vocabulary::SIGMET);
-    let sequence_end = put_sequence(out, sigmet_end, sequence);
+    let sequence_end = put_sequence(out, sigmet_end, l.sequence);
     let valid_end = put_fixed(out, sequence_end, vocabulary::VALID);
-    let period_end = put_period(out, valid_end, valid);
+    let period_end = put_period(out, valid_end, l.valid);
     put_office(out, period_end, l.office)
 }

@@ -77,7 +77,6 @@ pub(crate) fn put_form(out: &mut [u8], at: usize, r: Record) -> usize
     ensures { λ n. ⌜ Words (formWords r (r .form)) at (now (out .entry)) n (now (out .exit)) ⌝ }
 {
     let form = r.form;
-    let report = r.report;
     let to = r.line.valid.to;
     let end = Time {
         hour: to.hour,
@@ -87,6 +86,6 @@ pub(crate) fn put_form(out: &mut [u8], at: usize, r: Record) -> usize
         Form::NoForm => at,
         Form::Test(n) => put_test(out, at, n),
         Form::Cancellation(s, from) => put_cancellation(out, at, s, from, to),
-        Form::Reported => put_report(out, at, end, r.area.closing, report),
+        Form::Reported => put_report(out, at, end, r.area.closing, r.report),
     }
 }

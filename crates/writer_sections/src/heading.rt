@@ -79,10 +79,8 @@ fn put_correction(out: &mut [u8], at: usize, letter: u8) -> usize
 pub(crate) fn put_heading(out: &mut [u8], at: usize, h: Heading) -> usize
     ensures { λ r. ⌜ Line (headingWords h) at (now (out .entry)) r (now (out .exit)) ⌝ }
 {
-    let designator = h.designator;
-    let sent = h.sent;
-    let designator_end = put_designator(out, at, designator);
+    let designator_end = put_designator(out, at, h.designator);
     let centre_end = put_four(out, designator_end, h.centre);
-    let sent_end = put_sent(out, centre_end, sent);
+    let sent_end = put_sent(out, centre_end, h.sent);
     put_correction(out, sent_end, h.correction)
 }

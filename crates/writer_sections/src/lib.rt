@@ -42,9 +42,8 @@ fn put_body(out: &mut [u8], at: usize, r: Record) -> usize
     requires { ⌜ good r ≡ true ⌝ }
     ensures { λ n. ⌜ Line (bodyWords r) at (now (out .entry)) n (now (out .exit)) ⌝ }
 {
-    let area = r.area;
-    let next = put_area(out, at, area);
-    put_form(out, next, r)
+    let area_end = put_area(out, at, r.area);
+    put_form(out, area_end, r)
 }
 
 // The canonical text from the front of the page on.
@@ -52,11 +51,9 @@ fn put_good(out: &mut [u8], r: Record) -> usize
     requires { ⌜ good r ≡ true ⌝ }
     ensures { λ n. ⌜ Puts (textOf r) 0 (now (out .entry)) n (now (out .exit)) ⌝ }
 {
-    let heading = r.heading;
-    let line = r.line;
-    let heading_end = put_heading(out, 0, heading);
+    let heading_end = put_heading(out, 0, r.heading);
     let line_start = put_line_end(out, heading_end);
-    let line_end = put_first_line(out, line_start, line);
+    let line_end = put_first_line(out, line_start, r.line);
     let body_start = put_line_end(out, line_end);
     let body_end = put_body(out, body_start, r);
     put(out, body_end, b'=')

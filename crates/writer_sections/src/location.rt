@@ -44,21 +44,18 @@ fn put_coordinate(out: &mut [u8], at: usize, c: Coordinate, figures: u8) -> usiz
 pub(crate) fn put_point(out: &mut [u8], at: usize, p: Point) -> usize
     ensures { λ r. ⌜ Words (pointWords p) at (now (out .entry)) r (now (out .exit)) ⌝ }
 {
-    let latitude = p.latitude;
-    let longitude = p.longitude;
-    let latitude_end = put_coordinate(out, at, latitude, LATITUDE_FIGURES);
-    put_coordinate(out, latitude_end, longitude, LONGITUDE_FIGURES)
+    let latitude_end = put_coordinate(out, at, p.latitude, LATITUDE_FIGURES);
+    put_coordinate(out, latitude_end, p.longitude, LONGITUDE_FIGURES)
 }
 
 // One side of a bound: `N`, `S`, `E` or `W`, then `OF` and the coordinate.
 fn put_side(out: &mut [u8], at: usize, s: Side, figures: u8) -> usize
     ensures { λ r. ⌜ Words (sideWords (axisOf figures) s) at (now (out .entry)) r (now (out .exit)) ⌝ }
 {
-    let coordinate = s.at;
     let start = put(out, at, b' ');
     let letter_end = put(out, start, s.of);
     let coordinate_start = put_fixed(out, letter_end, vocabulary::OF);
-    put_coordinate(out, coordinate_start, coordinate, figures)
+    put_coordinate(out, coordinate_start, s.at, figures)
 }
 
 // A latitude, a longitude, or both with `AND` between. A side whose letter is 0 is not there.
@@ -66,17 +63,15 @@ fn put_bound(out: &mut [u8], at: usize, b: Bound) -> usize
     requires { ⌜ goodBound b ≡ true ⌝ }
     ensures { λ r. ⌜ Words (boundWords b) at (now (out .entry)) r (now (out .exit)) ⌝ }
 {
-    let latitude = b.latitude;
-    let longitude = b.longitude;
-    if latitude.of == 0 {
-        return put_side(out, at, longitude, LONGITUDE_FIGURES);
+    if b.latitude.of == 0 {
+        return put_side(out, at, b.longitude, LONGITUDE_FIGURES);
     }
-    let latitude_end = put_side(out, at, latitude, LATITUDE_FIGURES);
-    if longitude.of == 0 {
+    let latitude_end = put_side(out, at, b.latitude, LATITUDE_FIGURES);
+    if b.longitude.of == 0 {
         return latitude_end;
     }
     let and_end = put_fixed(out, latitude_end, vocabulary::AND);
-    put_side(out, and_end, longitude, LONGITUDE_FIGURES)
+    put_side(out, and_end, b.longitude, LONGITUDE_FIGURES)
 }
 
 // Points joined by the word `-`.

@@ -34,11 +34,10 @@ fn observed_word(n: u8) -> u64
 pub(crate) fn put_observation(out: &mut [u8], at: usize, o: Observation) -> usize
     ensures { λ r. ⌜ Words (observationWords o) at (now (out .entry)) r (now (out .exit)) ⌝ }
 {
-    let time = o.time;
     let word_end = put_fixed(out, at, observed_word(o.word));
     if o.timed {
         let time_start = put_fixed(out, word_end, vocabulary::AT);
-        return put_time(out, time_start, time);
+        return put_time(out, time_start, o.time);
     }
     word_end
 }

@@ -83,11 +83,9 @@ fn put_volcano(out: &mut [u8], at: usize, v: Volcano) -> usize
     requires { ⌜ goodVolcano v ≡ true ⌝ }
     ensures { λ r. ⌜ Words (volcanoWords v) at (now (out .entry)) r (now (out .exit)) ⌝ }
 {
-    let name = v.name;
-    let position = v.position;
-    let name_end = put_mount(out, at, name);
+    let name_end = put_mount(out, at, v.name);
     let position_start = put_fixed(out, name_end, vocabulary::PSN);
-    let position_end = put_point(out, position_start, position);
+    let position_end = put_point(out, position_start, v.position);
     let ash_end = put_fixed(out, position_end, vocabulary::VA);
     put_fixed(out, ash_end, vocabulary::CLD)
 }

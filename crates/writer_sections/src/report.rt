@@ -14,15 +14,11 @@ pub(crate) fn put_report(out: &mut [u8], at: usize, end: Time, closing: u8, r: R
     requires { ⌜ GoodReport r ⌝ }
     ensures { λ n. ⌜ Words (reportWords end closing r) at (now (out .entry)) n (now (out .exit)) ⌝ }
 {
-    let volcano = r.volcano;
-    let observation = r.observation;
-    let extent = r.extent;
     let level = r.level;
     let ending = r.ending;
-    let forecast = r.forecast;
-    let phenomenon_end = put_phenomenon(out, at, r.phenomenon, volcano);
-    let observation_end = put_observation(out, phenomenon_end, observation);
-    let extent_end = put_extent(out, observation_end, closing, extent);
+    let phenomenon_end = put_phenomenon(out, at, r.phenomenon, r.volcano);
+    let observation_end = put_observation(out, phenomenon_end, r.observation);
+    let extent_end = put_extent(out, observation_end, closing, r.extent);
     let level_end = put_level(out, extent_end, level);
-    put_ending(out, level_end, end, closing, ending, forecast)
+    put_ending(out, level_end, end, closing, ending, r.forecast)
 }

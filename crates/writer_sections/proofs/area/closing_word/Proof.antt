@@ -1,7 +1,7 @@
 -- `closing_word` meets its contract: each number has its word, and no other number has one. Assumes nothing.
 use Rattle.figures.specs.Codes.{behindOne}
-use Rattle.writer_sections.proofs.Tables.{unnumbered}
 use Rattle.names.specs.Names.{closingWords}
+use Rattle.writer_sections.proofs.Tables.{unnumbered}
 use Rattle.writer_sections.proofs.area.closing_word.Statement.{statement}
 use Rattle.writer_sections.proofs.area.closing_word.Tie as tie
 

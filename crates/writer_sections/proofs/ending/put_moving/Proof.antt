@@ -1,7 +1,7 @@
 -- `put_moving` meets its contract: its words, one behind the other. Assumes nothing.
 use borrow.Author.Needs.{needs}
-use Rattle.writer_sections.proofs.Sentences.{word, word-renamed, word-fixed}
 use Rattle.vocabulary.proofs.FixedWords.{fixed-mov}
+use Rattle.writer_sections.proofs.Sentences.{word, word-renamed, word-fixed}
 use Rattle.writer_sections.proofs.ending.put_moving.Statement.{statement}
 use Rattle.writer_sections.proofs.ending.put_moving.Tie as tie
 

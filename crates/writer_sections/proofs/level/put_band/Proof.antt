@@ -1,7 +1,7 @@
 -- `put_band` meets its contract: `/` and three figures go on from the lower level. Assumes nothing.
+use borrow.Author.Needs.{needs}
 use Rattle.figures.specs.Codes.{behindOne}
 use Rattle.pens.proofs.PenLaws.{then, goes-on}
-use borrow.Author.Needs.{needs}
 use Rattle.writer_sections.proofs.level.put_band.Statement.{statement}
 use Rattle.writer_sections.proofs.level.put_band.Tie as tie
 

@@ -1,6 +1,6 @@
 -- `put_metres` meets its contract: `M` goes on from the figures. Assumes nothing.
-use Rattle.pens.proofs.PenLaws.{goes-on}
 use borrow.Author.Needs.{needs}
+use Rattle.pens.proofs.PenLaws.{goes-on}
 use Rattle.writer_sections.proofs.level.put_metres.Statement.{statement}
 use Rattle.writer_sections.proofs.level.put_metres.Tie as tie
 

@@ -1,7 +1,7 @@
 -- `put_outline` meets its contract: `WI`, and the points behind it. Assumes nothing.
 use borrow.Author.Needs.{needs}
-use Rattle.writer_sections.proofs.Sentences.{word}
 use Rattle.figures.specs.Codes.{behindOne}
+use Rattle.writer_sections.proofs.Sentences.{word}
 use Rattle.writer_sections.proofs.location.put_outline.Statement.{statement}
 use Rattle.writer_sections.proofs.location.put_outline.Tie as tie
 

@@ -6,10 +6,10 @@ use lib.ListN.{length}
 use borrow.Author.Needs.{needs}
 use Rattle.lists.specs.Lists.{part}
 use Rattle.coordinates.specs.Points.{noPoint}
+use Rattle.vocabulary.proofs.FixedWords.{fixed-dash}
 use Rattle.message.specs.Limits.{mostPoints}
 use Rattle.message.specs.Locations.{dashed}
 use Rattle.pens.specs.Pens.{Words}
-use Rattle.vocabulary.proofs.FixedWords.{fixed-dash}
 use Rattle.pens.proofs.PenLaws.{no-words}
 use Rattle.writer_sections.proofs.SectionLaws.{point-more, points-joined}
 use Rattle.writer_sections.proofs.location.put_points.Statement.{statement}

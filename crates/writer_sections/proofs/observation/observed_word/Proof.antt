@@ -1,6 +1,6 @@
 -- `observed_word` meets its contract: number 1 is `OBS`, and any other `FCST`. Assumes nothing.
-use Rattle.figures.specs.Codes.{behindOne}
 use borrow.Author.Tests.{ne-eqb}
+use Rattle.figures.specs.Codes.{behindOne}
 use Rattle.writer_sections.proofs.observation.observed_word.Statement.{statement}
 use Rattle.writer_sections.proofs.observation.observed_word.Tie as tie
 

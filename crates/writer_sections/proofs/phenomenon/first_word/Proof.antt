@@ -3,8 +3,8 @@ use mathlib.Core.Path.{refl}
 use native.Mathlib.Omega.{arith}
 use Rattle.lists.specs.Lists.{same}
 use Rattle.lists.specs.Text.{bytes}
-use Rattle.message.specs.Reports.{phenomena}
 use Rattle.figures.specs.Codes.{behindOne}
+use Rattle.message.specs.Reports.{phenomena}
 use Rattle.writer_sections.specs.Sections.{firstWord}
 use Rattle.writer_sections.proofs.Tables.{ranged, past}
 use Rattle.writer_sections.proofs.phenomenon.first_word.Statement.{statement}

@@ -1,7 +1,7 @@
 -- `put_named` meets its contract: a phenomenon has two words, and `SEV ICE (FZRA)` a third. Assumes nothing.
 use borrow.Author.Needs.{needs}
-use Rattle.writer_sections.proofs.SectionLaws.{two-named, three-named, eruption-named}
 use Rattle.vocabulary.proofs.FixedWords.{fixed-freezing-rain}
+use Rattle.writer_sections.proofs.SectionLaws.{two-named, three-named, eruption-named}
 use Rattle.writer_sections.proofs.phenomenon.put_named.Statement.{statement}
 use Rattle.writer_sections.proofs.phenomenon.put_named.Tie as tie
 
