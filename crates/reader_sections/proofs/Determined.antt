@@ -1,7 +1,7 @@
 -- The public contract of this crate determines its reply: two replies that it allows on the same text are equal.
 -- Assumes nothing.
-use Rattle.lists.proofs.Choice.{determined}
 use Rattle.lists.specs.Determined.{Determines}
+use Rattle.lists.proofs.Choice.{determined}
 use Rattle.reader_sections.proofs.read_text.Kinds as read-text-kinds
 use Rattle.reader_sections.proofs.read_text.Reads as read-text-reads
 

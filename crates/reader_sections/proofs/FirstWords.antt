@@ -9,17 +9,17 @@ use lib.Dec.{eqb}
 use borrow.Author.Tests.{eq-eqb, ne-eqb, eqb-true, eqb-false, not-true}
 use Rattle.lists.specs.Choice.{both}
 use Rattle.lists.proofs.Choice.{by, clash, both-left, both-right, both-true}
-use Rattle.groups.specs.Groups.{timeOf}
 use Rattle.groups.specs.declared.Time.{Time}
-use Rattle.levels.specs.Levels.{levelOf, goodLevelWord, emptyLevel, flight}
-use Rattle.levels.specs.declared.Level.{Level}
+use Rattle.groups.specs.Groups.{timeOf}
 use Rattle.levels.specs.declared.Level.the-variants.{NoLevel, Flight, SurfaceFlight, SurfaceMetres, SurfaceFeet, Band, TopFlight, AboveFlight, TopAboveFlight}
+use Rattle.levels.specs.declared.Level.{Level}
+use Rattle.levels.specs.Levels.{levelOf, goodLevelWord, emptyLevel, flight}
 use Rattle.levels.proofs.LevelLaws.{level-reads, empty-level-is}
 use Rattle.grammar.specs.Placing.{is}
-use Rattle.grammar.specs.States.{ToArea, ToLevel}
 use Rattle.grammar.specs.States.Placing.{atLocation}
 use Rattle.grammar.specs.States.Site.{inForecast}
 use Rattle.grammar.specs.States.State.{atForm, atAsh, atPlace, atForecastTime}
+use Rattle.grammar.specs.States.{ToArea, ToLevel}
 use Rattle.grammar.specs.Steps.{goesIf, stepWeather, kindOf, flightOf, stepForm, endTime, step}
 use Rattle.reader_sections.specs.Endings.{forecastTime}
 use Rattle.reader_sections.specs.Reports.{flightIn, Reporting}

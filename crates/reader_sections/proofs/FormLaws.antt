@@ -6,11 +6,11 @@ use mathlib.Core.Path.{_≡_}
 use Prim.Native.Nat.{ℕ}
 use Rattle.lists.specs.Lists.{part, same}
 use Rattle.figures.specs.Codes.{codeOf, FixedWord}
-use Rattle.grammar.specs.States.{State}
 use Rattle.grammar.specs.States.Move.{goes}
+use Rattle.grammar.specs.States.{State}
 use Rattle.grammar.specs.Steps.{step}
-use Rattle.reader_sections.specs.Steps.{wordFrom, Stands, Before, Leads}
 use Rattle.reader_sections.specs.declared.steps.Step.{Step}
+use Rattle.reader_sections.specs.Steps.{wordFrom, Stands, Before, Leads}
 use Rattle.reader_sections.proofs.Leads.{goes-code, code-going, code-yes}
 
 -- the code of the next word

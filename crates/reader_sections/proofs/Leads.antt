@@ -10,22 +10,21 @@ use lib.ListN.{length}
 use borrow.Author.Tests.{eq-eqb, ne-eqb, eqb-true, eqb-false}
 use Rattle.lists.specs.Lists.{part, same}
 use Rattle.lists.proofs.Choice.{by, clash, pick-true, pick-false}
-use Rattle.figures.specs.Codes.{codeOf}
+use Rattle.figures.specs.Codes.{codeOf, FixedWord}
 use Rattle.figures.proofs.CodeLaws.{same-code}
 use Rattle.headings.specs.Headings.{correctionOf, goodCorrection}
 use Rattle.message.specs.declared.Record.{Record}
 use Rattle.grammar.specs.Reads.{replyOf, acceptance, refusal}
-use Rattle.grammar.specs.Runs.{runAt}
 use Rattle.grammar.specs.Runs.Ran.{refused}
-use Rattle.grammar.specs.States.{State}
+use Rattle.grammar.specs.Runs.{runAt}
 use Rattle.grammar.specs.States.Move.{goes}
 use Rattle.grammar.specs.States.State.{atEnd, atCorrection, atUnit}
+use Rattle.grammar.specs.States.{State}
 use Rattle.grammar.specs.Steps.{step}
+use Rattle.reader_sections.specs.declared.steps.Step.{Step}
+use Rattle.reader_sections.specs.Heads.{CorrectionSays}
 use Rattle.reader_sections.specs.Steps.{concluded, wordFrom, WordAt, runOn, Leads, Finishes, Stands, Before, Judged, Takes, TakesFixed, TakesLong, MayTake, Closes}
 use Rattle.reader_sections.proofs.OneWord.{Goes, good-word, bad-word, part-is, goes-word, same-word}
-use Rattle.reader_sections.specs.Heads.{CorrectionSays}
-use Rattle.figures.specs.Codes.{FixedWord}
-use Rattle.reader_sections.specs.declared.steps.Step.{Step}
 use Rattle.reader_sections.proofs.RunsAt.{skip, word-again, some-word}
 use Rattle.reader_sections.proofs.Tells.{FieldTells, correction-tells}
 

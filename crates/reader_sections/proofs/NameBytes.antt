@@ -11,13 +11,13 @@ use lib.ListN.{length, getD, take, drop, set, replicate, length-append, length-r
 use lib.Seq.{paste-zero, take-length, take-append-seam, take-suc-set, drop-append-add, drop-at, drop-set-lt, paste, paste-suc}
 use Rattle.lists.proofs.Choice.{pick-true}
 use Rattle.lists.proofs.Lists.{length-part}
-use Rattle.message.specs.Names.{noName}
 use Rattle.message.specs.declared.Name.{Name}
+use Rattle.message.specs.Names.{noName}
 use Rattle.grammar.specs.Records.{nameOf}
 use Rattle.grammar.specs.Steps.{grown}
-use Rattle.reader_sections.specs.Steps.{Stands}
-use Rattle.reader_sections.specs.Naming.{wordOn, FirstSays, GrownSays}
 use Rattle.reader_sections.specs.declared.steps.Step.{Step}
+use Rattle.reader_sections.specs.Naming.{wordOn, FirstSays, GrownSays}
+use Rattle.reader_sections.specs.Steps.{Stands}
 
 -- the first bytes of a word are in, from a place on
 pub record PutSoFar (d : List ℕ) (at : ℕ) (w out : List ℕ) (i : ℕ) : Type 0 where

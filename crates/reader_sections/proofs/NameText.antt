@@ -14,22 +14,22 @@ use Rattle.lists.specs.Choice.{pick, both}
 use Rattle.lists.proofs.Choice.{by, clash, both-left, both-right, both-unit, both-false-left, both-false-right, pick-true, pick-false}
 use Rattle.lists.proofs.Lists.{length-part}
 use Rattle.names.specs.Names.{closingOf, goodClosing, nameWord, inName}
-use Rattle.message.specs.Limits.{nameBytes, mountainLimit}
 use Rattle.message.specs.declared.FirstLine.{FirstLine}
 use Rattle.message.specs.declared.Heading.{Heading}
 use Rattle.message.specs.declared.Name.{Name}
+use Rattle.message.specs.Limits.{nameBytes, mountainLimit}
 use Rattle.grammar.specs.Placing.{is}
 use Rattle.grammar.specs.Records.{nameOf}
-use Rattle.grammar.specs.States.{ToArea, State, Move}
 use Rattle.grammar.specs.States.State.{atName, atMoreName, atForm, atMountain, atMoreMountain, atPosition}
+use Rattle.grammar.specs.States.{ToArea, State, Move}
 use Rattle.grammar.specs.Steps.{goesIf, grown, begun, goneOn, step}
 use Rattle.grammar.proofs.NameText.{open-area, open-mountain}
-use Rattle.reader_sections.specs.Steps.{wordFrom, Leads, Stands, Before, Judged}
-use Rattle.reader_sections.specs.Naming.{wordOn, BelongsSays, FirstSays, GrownSays, TakesName, NameSays}
 use Rattle.reader_sections.specs.declared.steps.Step.{Step}
+use Rattle.reader_sections.specs.Naming.{wordOn, BelongsSays, FirstSays, GrownSays, TakesName, NameSays}
+use Rattle.reader_sections.specs.Steps.{wordFrom, Leads, Stands, Before, Judged}
 use Rattle.reader_sections.proofs.Leads.{then, over, whether, nothing, standing, past-leads, judged-good, takes}
-use Rattle.reader_sections.proofs.RunsAt.{some-word}
 use Rattle.reader_sections.proofs.OneWord.{part-is, goes-word}
+use Rattle.reader_sections.proofs.RunsAt.{some-word}
 
 -- The states of a name.
 

@@ -2,25 +2,25 @@
 -- Assumes nothing.
 use mathlib.Core.Bool.{Bool, true, false}
 use mathlib.Core.List.{List, [], _∷_}
+use mathlib.Core.Logic._⊎_.{inl, inr}
+use mathlib.Core.Logic.{_⊎_}
 use mathlib.Core.Path.{_≡_, refl, ap, sym, _∙_}
 use Prim.Native.Nat.{ℕ, _-_, _≤_, _<_}
 use native.Mathlib.Omega.{arith}
 use lib.Dec.{eqb}
 use lib.ListN.{length}
 use borrow.Author.Tests.{ne-eqb}
-use mathlib.Core.Logic.{_⊎_}
-use mathlib.Core.Logic._⊎_.{inl, inr}
 use Rattle.lists.specs.Choice.{pick}
 use Rattle.lists.specs.Lists.{part, same}
 use Rattle.lists.proofs.Lists.{length-part}
 use Rattle.figures.specs.Reads.{Reads}
-use Rattle.grammar.specs.Numbers.{numberOf}
 use Rattle.message.specs.declared.Record.{Record}
-use Rattle.grammar.specs.Runs.{Ran, runAt}
+use Rattle.grammar.specs.Numbers.{numberOf}
 use Rattle.grammar.specs.Runs.Ran.{accepted, refused}
-use Rattle.grammar.specs.States.{State}
+use Rattle.grammar.specs.Runs.{Ran, runAt}
 use Rattle.grammar.specs.States.Move.{goes, dead}
 use Rattle.grammar.specs.States.State.{atEnd}
+use Rattle.grammar.specs.States.{State}
 use Rattle.grammar.specs.Steps.{goesIf, step}
 use Rattle.grammar.proofs.NumberLaws.{number-range}
 use Rattle.reader_sections.specs.Steps.{wordFrom, WordAt}

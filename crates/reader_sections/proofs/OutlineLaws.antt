@@ -13,31 +13,31 @@ use borrow.Author.Tests.{ltb-true}
 use Rattle.lists.specs.Choice.{pick, both, either}
 use Rattle.lists.specs.Lists.{part}
 use Rattle.lists.proofs.Choice.{by, clash, both-left, both-right, both-false-left}
-use Rattle.coordinates.specs.Coordinates.{northSouth, eastWest, coordinateOf, goodCoordinate}
-use Rattle.coordinates.specs.Points.{sameValue, samePoint, noPoint}
+use Rattle.vocabulary.proofs.FixedWords.{fixed-dash}
 use Rattle.coordinates.specs.declared.Coordinate.{Coordinate}
 use Rattle.coordinates.specs.declared.Point.{Point}
-use Rattle.message.specs.Limits.{leastPoints, mostPoints}
+use Rattle.coordinates.specs.Coordinates.{northSouth, eastWest, coordinateOf, goodCoordinate}
+use Rattle.coordinates.specs.Points.{sameValue, samePoint, noPoint}
 use Rattle.message.specs.declared.Extent.{Extent}
 use Rattle.message.specs.declared.Location.the-variants.{Outline}
+use Rattle.message.specs.Limits.{leastPoints, mostPoints}
 use Rattle.grammar.specs.Numbers.{locationPart}
-use Rattle.grammar.specs.Placing.{Placed, closes, mayFollow, pointed, placeStep}
 use Rattle.grammar.specs.Placing.Placed.{on, there, nowhere}
+use Rattle.grammar.specs.Placing.{Placed, closes, mayFollow, pointed, placeStep}
 use Rattle.grammar.specs.Records.{outlined}
-use Rattle.grammar.specs.States.{Site}
 use Rattle.grammar.specs.States.Placing.{atLatitude, atLongitude, atDash}
 use Rattle.grammar.specs.States.State.{atPlace}
+use Rattle.grammar.specs.States.{Site}
 use Rattle.grammar.specs.Steps.{closingAt, after}
-use Rattle.reader_sections.specs.Steps.{wordFrom, WordAt, Leads, Stands, Judged, TakesFixed}
 use Rattle.reader_sections.specs.declared.steps.Step.{Step}
-use Rattle.reader_sections.specs.Outlines.{Points, FollowsSays, ClosesSays, LatitudeSays, LongitudeSays, PointSays}
 use Rattle.reader_sections.specs.Locations.{LocatedSays}
-use Rattle.reader_sections.proofs.Tells.{latitude-tells, longitude-tells}
-use Rattle.vocabulary.proofs.FixedWords.{fixed-dash}
-use Rattle.reader_sections.proofs.RunsAt.{some-word}
-use Rattle.reader_sections.proofs.OneWord.{part-is, goes-word, dead-word}
+use Rattle.reader_sections.specs.Outlines.{Points, FollowsSays, ClosesSays, LatitudeSays, LongitudeSays, PointSays}
+use Rattle.reader_sections.specs.Steps.{wordFrom, WordAt, Leads, Stands, Judged, TakesFixed}
 use Rattle.reader_sections.proofs.Leads.{then, over, nothing, judged-leads, judged-good, takes, field-good, standing}
+use Rattle.reader_sections.proofs.OneWord.{part-is, goes-word, dead-word}
+use Rattle.reader_sections.proofs.RunsAt.{some-word}
 use Rattle.reader_sections.proofs.Sides.{on-step, there-step, nowhere-step, takes-on, fixed-on}
+use Rattle.reader_sections.proofs.Tells.{latitude-tells, longitude-tells}
 
 module _ {first : Point} {count : ℕ} where
   -- no point so far

@@ -12,16 +12,16 @@ use borrow.Author.Tests.{ltb-true, ltb-false}
 use Rattle.lists.specs.Lists.{part, indexFrom}
 use Rattle.lists.proofs.Choice.{by, clash}
 use Rattle.lists.proofs.Lists.{length-part, from-here, from-none, index-found}
+use Rattle.words.specs.declared.Span.{Span}
 use Rattle.words.specs.Bytes.{blank, solid}
 use Rattle.words.specs.Words.{Word, wordsAt, spanOf}
-use Rattle.words.specs.declared.Span.{Span}
 use Rattle.words.proofs.Words.{Next, Last, span-next, span-last}
 use Rattle.message.specs.declared.Record.{Record}
 use Rattle.grammar.specs.Numbers.{numberOf}
-use Rattle.grammar.specs.Runs.{run, runAt}
 use Rattle.grammar.specs.Runs.Ran.{accepted, refused}
-use Rattle.grammar.specs.States.{State}
+use Rattle.grammar.specs.Runs.{run, runAt}
 use Rattle.grammar.specs.States.Move.{goes, done, dead}
+use Rattle.grammar.specs.States.{State}
 use Rattle.grammar.specs.Steps.{step}
 use Rattle.reader_sections.specs.Steps.{wordFrom, WordAt}
 

@@ -13,31 +13,30 @@ use Rattle.lists.specs.Base.{worthAfter}
 use Rattle.lists.specs.Lists.{allOf, part, same}
 use Rattle.lists.proofs.Choice.{by, either-right, either-cases, pick-true, pick-false}
 use Rattle.lists.proofs.Lists.{same-refl, same-is}
-use Rattle.figures.specs.Codes.{short, codeOf}
+use Rattle.figures.specs.Codes.{short, codeOf, FixedWord}
 use Rattle.figures.proofs.CodeLaws.{code-tells}
-use Rattle.coordinates.specs.Coordinates.{Axis, northSouth, eastWest, coordinateOf, goodCoordinate}
+use Rattle.vocabulary.proofs.FixedWords.{fixed-of, fixed-fir, fixed-cta}
 use Rattle.coordinates.specs.declared.Coordinate.{Coordinate}
-use Rattle.message.specs.Limits.{cta}
+use Rattle.coordinates.specs.Coordinates.{Axis, northSouth, eastWest, coordinateOf, goodCoordinate}
 use Rattle.message.specs.declared.Extent.{Extent}
 use Rattle.message.specs.declared.Side.{Side}
+use Rattle.message.specs.Limits.{cta}
 use Rattle.grammar.specs.Numbers.{locationPart, followingPart, placeNumber, numberOf}
-use Rattle.grammar.specs.Placing.{onIf, thereIf, sideWord, entireWord, placeStep}
 use Rattle.grammar.specs.Placing.Placed.{on, there, past, nowhere}
+use Rattle.grammar.specs.Placing.{onIf, thereIf, sideWord, entireWord, placeStep}
 use Rattle.grammar.specs.Records.{bounded}
-use Rattle.grammar.specs.States.{Site, Placing}
+use Rattle.grammar.specs.States.Move.{goes, dead}
 use Rattle.grammar.specs.States.Placing.{atLatitudeOf, atLatitudeBound, atAnd, atLongitudeOf, atLongitudeBound}
 use Rattle.grammar.specs.States.Site.{inReport, inForecast}
 use Rattle.grammar.specs.States.State.{atPlace}
-use Rattle.grammar.specs.States.Move.{goes, dead}
+use Rattle.grammar.specs.States.{Site, Placing}
 use Rattle.grammar.specs.Steps.{goesIf, closingAt, after, stepAfter, settled, step}
-use Rattle.reader_sections.specs.Steps.{wordFrom, Leads, Stands, Before, Judged, Takes, TakesFixed}
-use Rattle.figures.specs.Codes.{FixedWord}
 use Rattle.reader_sections.specs.declared.steps.Step.{Step}
 use Rattle.reader_sections.specs.Locations.{sideIn, SideSays}
-use Rattle.vocabulary.proofs.FixedWords.{fixed-of, fixed-fir, fixed-cta}
-use Rattle.reader_sections.proofs.RunsAt.{some-word}
-use Rattle.reader_sections.proofs.OneWord.{part-is, goes-word}
+use Rattle.reader_sections.specs.Steps.{wordFrom, Leads, Stands, Before, Judged, Takes, TakesFixed}
 use Rattle.reader_sections.proofs.Leads.{then, whether, nothing, takes, standing, past-leads}
+use Rattle.reader_sections.proofs.OneWord.{part-is, goes-word}
+use Rattle.reader_sections.proofs.RunsAt.{some-word}
 
 -- the number of what follows a location
 pub following-number : (site : Site) (e : Extent) → numberOf (after site e) ≡ followingPart site

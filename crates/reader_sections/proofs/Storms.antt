@@ -13,14 +13,14 @@ use Rattle.lists.proofs.Choice.{clash, both-true}
 use Rattle.figures.specs.Codes.{short, codeOf}
 use Rattle.figures.specs.Tables.{wordIn}
 use Rattle.figures.proofs.TableLaws.{find-word}
-use Rattle.grammar.specs.States.{ToArea}
 use Rattle.grammar.specs.States.State.{atForm, atStorm}
+use Rattle.grammar.specs.States.{ToArea}
 use Rattle.grammar.specs.Steps.{stormWords, stormOf, goodStorm, stepWeather, step}
-use Rattle.reader_sections.specs.Steps.{wordFrom, Leads, Stands, Before}
 use Rattle.reader_sections.specs.declared.steps.Step.{Step}
-use Rattle.reader_sections.proofs.RunsAt.{some-word}
-use Rattle.reader_sections.proofs.OneWord.{part-is, goes-word}
+use Rattle.reader_sections.specs.Steps.{wordFrom, Leads, Stands, Before}
 use Rattle.reader_sections.proofs.Leads.{whether, nothing, standing, past-leads}
+use Rattle.reader_sections.proofs.OneWord.{part-is, goes-word}
+use Rattle.reader_sections.proofs.RunsAt.{some-word}
 
 storms-short : allOf short stormWords ≡ true
 unfolding stormWords allOf

@@ -14,27 +14,27 @@ use Rattle.figures.specs.Figures.{figuresOf}
 use Rattle.figures.specs.Letters.{lettersOf, goodLetters}
 use Rattle.figures.specs.Reads.{Reads}
 use Rattle.figures.proofs.LetterLaws.{letters-reads}
-use Rattle.coordinates.specs.Coordinates.{Axis, northSouth, eastWest, coordinateOf, goodCoordinate}
 use Rattle.coordinates.specs.declared.Coordinate.{Coordinate}
+use Rattle.coordinates.specs.Coordinates.{Axis, northSouth, eastWest, coordinateOf, goodCoordinate}
 use Rattle.coordinates.proofs.Axes.{latitude-reads, longitude-reads}
-use Rattle.groups.specs.Groups.{groupOf, goodGroup, periodOf, goodPeriod, timeOf, goodTime}
 use Rattle.groups.specs.declared.Group.{Group}
 use Rattle.groups.specs.declared.Period.{Period}
 use Rattle.groups.specs.declared.Time.{Time}
+use Rattle.groups.specs.Groups.{groupOf, goodGroup, periodOf, goodPeriod, timeOf, goodTime}
 use Rattle.groups.proofs.GroupLaws.{group-reads, period-reads, time-reads}
-use Rattle.headings.specs.Headings.{typeWords, designatorOf, goodDesignator, correctionOf, goodCorrection, officeOf}
-use Rattle.headings.specs.Sequences.{characters, sequenceOf, goodSequence}
 use Rattle.headings.specs.declared.Designator.{Designator}
 use Rattle.headings.specs.declared.Sequence.{Sequence}
+use Rattle.headings.specs.Headings.{typeWords, designatorOf, goodDesignator, correctionOf, goodCorrection, officeOf}
+use Rattle.headings.specs.Sequences.{characters, sequenceOf, goodSequence}
 use Rattle.headings.proofs.HeadingLaws.{designator-reads, correction-reads, office-reads}
 use Rattle.headings.proofs.SequenceLaws.{sequence-reads}
-use Rattle.message.specs.declared.FirstLine.{FirstLine}
-use Rattle.motions.specs.Motions.{compassWords, compassOf, goodCompass, intensityWords, intensityOf, goodIntensity}
-use Rattle.motions.specs.Speeds.{unitWords, speedOf, goodSpeed}
-use Rattle.motions.specs.declared.Speed.{Speed}
-use Rattle.motions.proofs.MotionLaws.{compass-reads, speed-reads, intensity-reads}
 use Rattle.names.specs.Names.{closingWords, closingOf, goodClosing}
 use Rattle.names.proofs.NameLaws.{closing-reads}
+use Rattle.motions.specs.declared.Speed.{Speed}
+use Rattle.motions.specs.Motions.{compassWords, compassOf, goodCompass, intensityWords, intensityOf, goodIntensity}
+use Rattle.motions.specs.Speeds.{unitWords, speedOf, goodSpeed}
+use Rattle.motions.proofs.MotionLaws.{compass-reads, speed-reads, intensity-reads}
+use Rattle.message.specs.declared.FirstLine.{FirstLine}
 use Rattle.grammar.specs.Steps.{cancels}
 use Rattle.reader_sections.specs.Endings.{forecastTime}
 use Rattle.reader_sections.proofs.OneWord.{field-yes, field-no}

@@ -7,11 +7,11 @@ use Rattle.message.specs.declared.FirstLine.{FirstLine}
 use Rattle.message.specs.declared.Form.{Form}
 use Rattle.message.specs.declared.Report.{Report}
 use Rattle.grammar.specs.Records.{formed}
-use Rattle.grammar.specs.States.{ToArea}
 use Rattle.grammar.specs.States.State.{atForm, atTest, atTestText, atCancelSigmet}
+use Rattle.grammar.specs.States.{ToArea}
 use Rattle.grammar.specs.Steps.{kindOf}
-use Rattle.reader_sections.specs.Steps.{Finishes}
 use Rattle.reader_sections.specs.declared.steps.Step.{Step}
+use Rattle.reader_sections.specs.Steps.{Finishes}
 
 -- after `TEST`
 pub record TestBodySays (t : List ℕ) (from to : Step) (form : Form) (r : Report) : Type 0 where

@@ -7,10 +7,10 @@ use Rattle.groups.specs.declared.Group.{Group}
 use Rattle.headings.specs.declared.Sequence.{Sequence}
 use Rattle.message.specs.declared.FirstLine.{FirstLine}
 use Rattle.grammar.specs.Records.{testOf, cancellationOf}
-use Rattle.grammar.specs.States.{ToArea}
 use Rattle.grammar.specs.States.State.{atTest, atTestText, atCancelSigmet, atEnd}
-use Rattle.reader_sections.specs.Steps.{Stands, Leads}
+use Rattle.grammar.specs.States.{ToArea}
 use Rattle.reader_sections.specs.declared.steps.Step.{Step}
+use Rattle.reader_sections.specs.Steps.{Stands, Leads}
 
 -- `PLEASE DISREGARD`, the end of the second text and of the third
 pub record PleaseSays (t : List ℕ) (from to : Step) : Type 0 where

@@ -8,8 +8,8 @@ use Rattle.message.specs.declared.Area.{Area}
 use Rattle.message.specs.declared.FirstLine.{FirstLine}
 use Rattle.message.specs.declared.Heading.{Heading}
 use Rattle.grammar.specs.States.State.{atDesignator, atCorrection, atUnit, atIndicator, atForm}
-use Rattle.reader_sections.specs.Steps.{Stands, Leads}
 use Rattle.reader_sections.specs.declared.steps.Step.{Step}
+use Rattle.reader_sections.specs.Steps.{Stands, Leads}
 
 -- "then perhaps a correction": 0 where there is none
 pub record CorrectionSays (t : List ℕ) (from to : Step) (correction : ℕ) : Type 0 where

@@ -9,11 +9,11 @@ use Rattle.lists.specs.Lists.{same}
 use Rattle.figures.specs.Codes.{codeOf}
 use Rattle.message.specs.declared.Extent.{Extent}
 use Rattle.grammar.specs.Numbers.{locationPart}
-use Rattle.grammar.specs.States.{Site, Placing}
 use Rattle.grammar.specs.States.State.{atPlace}
+use Rattle.grammar.specs.States.{Site, Placing}
 use Rattle.grammar.specs.Steps.{closingAt, after}
-use Rattle.reader_sections.specs.Steps.{Stands, Leads}
 use Rattle.reader_sections.specs.declared.steps.Step.{Step}
+use Rattle.reader_sections.specs.Steps.{Stands, Leads}
 
 -- the letter of a word that is one of two letters, 0 of any other
 abbrev pub sideIn : ℕ → ℕ → List ℕ → ℕ

@@ -9,15 +9,15 @@ use lib.ListN.{length, take}
 use Rattle.lists.specs.Choice.{pick, both}
 use Rattle.lists.specs.Lists.{part}
 use Rattle.names.specs.Names.{inName}
-use Rattle.message.specs.Names.{noName}
 use Rattle.message.specs.declared.Name.{Name}
+use Rattle.message.specs.Names.{noName}
 use Rattle.grammar.specs.Numbers.{numberOf}
 use Rattle.grammar.specs.Records.{nameOf}
-use Rattle.grammar.specs.States.{State, Move}
 use Rattle.grammar.specs.States.Move.{goes}
+use Rattle.grammar.specs.States.{State, Move}
 use Rattle.grammar.specs.Steps.{goesIf, grown, begun, goneOn, step}
-use Rattle.reader_sections.specs.Steps.{wordFrom, Stands, Leads}
 use Rattle.reader_sections.specs.declared.steps.Step.{Step}
+use Rattle.reader_sections.specs.Steps.{wordFrom, Stands, Leads}
 
 -- the word at a step
 abbrev pub wordOn : List ℕ → Step → List ℕ

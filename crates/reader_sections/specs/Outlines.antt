@@ -6,20 +6,20 @@ use mathlib.Core.Path.{_≡_}
 use Prim.Native.Nat.{ℕ, _+_, _<_}
 use lib.ListN.{length, getD}
 use Rattle.lists.specs.Choice.{both}
-use Rattle.coordinates.specs.Coordinates.{northSouth, coordinateOf, goodCoordinate}
-use Rattle.coordinates.specs.Points.{noPoint}
 use Rattle.coordinates.specs.declared.Coordinate.{Coordinate}
 use Rattle.coordinates.specs.declared.Point.{Point}
+use Rattle.coordinates.specs.Coordinates.{northSouth, coordinateOf, goodCoordinate}
+use Rattle.coordinates.specs.Points.{noPoint}
 use Rattle.message.specs.Limits.{mostPoints}
 use Rattle.grammar.specs.Numbers.{locationPart}
 use Rattle.grammar.specs.Placing.{closes, mayFollow}
 use Rattle.grammar.specs.Records.{outlined}
-use Rattle.grammar.specs.States.{Site}
 use Rattle.grammar.specs.States.Placing.{atLatitude, atLongitude, atDash}
 use Rattle.grammar.specs.States.State.{atPlace}
+use Rattle.grammar.specs.States.{Site}
 use Rattle.grammar.specs.Steps.{after}
-use Rattle.reader_sections.specs.Steps.{Stands, Leads, Takes}
 use Rattle.reader_sections.specs.declared.steps.Step.{Step}
+use Rattle.reader_sections.specs.Steps.{Stands, Leads, Takes}
 
 -- the points so far: that many, the first of them at hand
 pub record Points (first : Point) (count : ℕ) (ps : List Point) : Type 0 where

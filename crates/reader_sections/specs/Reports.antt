@@ -5,22 +5,22 @@ use mathlib.Core.List.{List}
 use mathlib.Core.Path.{_≡_}
 use Prim.Native.Nat.{ℕ}
 use Rattle.groups.specs.declared.Time.{Time}
-use Rattle.levels.specs.Levels.{levelOf}
 use Rattle.levels.specs.declared.Level.{Level}
-use Rattle.message.specs.Words.{timeOfDay}
+use Rattle.levels.specs.Levels.{levelOf}
 use Rattle.message.specs.declared.Form.the-variants.{Reported}
 use Rattle.message.specs.declared.Observation.{Observation}
 use Rattle.message.specs.declared.Report.{Report}
 use Rattle.message.specs.declared.Volcano.{Volcano}
+use Rattle.message.specs.Words.{timeOfDay}
 use Rattle.grammar.specs.Placing.{is}
 use Rattle.grammar.specs.Records.{formed}
-use Rattle.grammar.specs.States.{ToArea, ToPhenomenon, ToLocation}
 use Rattle.grammar.specs.States.Placing.{atLocation}
 use Rattle.grammar.specs.States.Site.{inReport}
 use Rattle.grammar.specs.States.State.{atForm, atObservation, atObserved, atPlace, atLevel, atTop, atEnding}
+use Rattle.grammar.specs.States.{ToArea, ToPhenomenon, ToLocation}
 use Rattle.grammar.specs.Steps.{kindOf, flightOf}
-use Rattle.reader_sections.specs.Steps.{Stands, Leads, Finishes, wordFrom}
 use Rattle.reader_sections.specs.declared.steps.Step.{Step}
+use Rattle.reader_sections.specs.Steps.{Stands, Leads, Finishes, wordFrom}
 
 -- after `OBS` or `FCST`
 pub record ObservedSays (word : ℕ) (t : List ℕ) (from to : Step) (o : Observation) : Type 0 where

@@ -14,11 +14,11 @@ use Rattle.words.specs.Words.{spanOf}
 use Rattle.figures.specs.Codes.{FixedWord}
 use Rattle.message.specs.declared.Record.{Record}
 use Rattle.grammar.specs.Numbers.{numberOf}
-use Rattle.grammar.specs.Runs.{Ran, runAt}
 use Rattle.grammar.specs.Runs.Ran.{accepted, refused}
-use Rattle.grammar.specs.States.{State}
+use Rattle.grammar.specs.Runs.{Ran, runAt}
 use Rattle.grammar.specs.States.Move.{goes}
 use Rattle.grammar.specs.States.State.{atEnd}
+use Rattle.grammar.specs.States.{State}
 use Rattle.grammar.specs.Steps.{goesIf, step}
 use Rattle.reader_sections.specs.declared.steps.Step.{Step}
 

@@ -8,24 +8,24 @@ use native.Mathlib.Omega.{arith}
 use borrow.Author.Tests.{not-true, not-false}
 use Rattle.lists.proofs.Choice.{both-left}
 use Rattle.words.proofs.Ranges.{between-low, between-high}
-use Rattle.message.specs.Limits.{nameBytes, mostPoints}
-use Rattle.message.specs.Locations.{goodBound, goodExtent, noPoints}
-use Rattle.message.specs.Records.{goodForm, good}
-use Rattle.message.specs.Words.{textOf}
-use Rattle.message.specs.Reports.{goodVolcano}
+use Rattle.pens.specs.Pens.{Puts}
+use Rattle.pens.proofs.PenLaws.{nothing}
 use Rattle.message.specs.declared.Bound.{Bound}
-use Rattle.message.specs.declared.Ending.{Ending}
 use Rattle.message.specs.declared.Ending.the-variants.{Forecast}
+use Rattle.message.specs.declared.Ending.{Ending}
 use Rattle.message.specs.declared.Extent.{Extent}
-use Rattle.message.specs.declared.Form.{Form}
 use Rattle.message.specs.declared.Form.the-variants.{Test, Reported}
+use Rattle.message.specs.declared.Form.{Form}
 use Rattle.message.specs.declared.Location.the-variants.{Bounded, Outline}
 use Rattle.message.specs.declared.Record.{Record}
 use Rattle.message.specs.declared.Report.{Report}
 use Rattle.message.specs.declared.Volcano.{Volcano}
+use Rattle.message.specs.Limits.{nameBytes, mostPoints}
+use Rattle.message.specs.Locations.{goodBound, goodExtent, noPoints}
+use Rattle.message.specs.Records.{goodForm, good}
+use Rattle.message.specs.Reports.{goodVolcano}
+use Rattle.message.specs.Words.{textOf}
 use Rattle.message.proofs.Goodness.{good-parts, area-parts, name-parts, outline-parts, forecast-parts, report-parts, volcano-parts}
-use Rattle.pens.specs.Pens.{Puts}
-use Rattle.pens.proofs.PenLaws.{nothing}
 use Rattle.writer_sections.specs.Sections.{goodText, GoodReport, GoodPhenomenon, GoodMount, GoodEnding}
 
 -- what a test of the record found

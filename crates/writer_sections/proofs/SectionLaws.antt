@@ -19,22 +19,19 @@ use Rattle.lists.proofs.Lists.{same-is}
 use Rattle.words.proofs.Ranges.{between-low, between-high}
 use Rattle.figures.specs.Codes.{FixedWord, spellCode}
 use Rattle.figures.specs.Figures.{inFigures}
-use Rattle.coordinates.specs.Coordinates.{Axis, northSouth, eastWest, spellCoordinate}
-use Rattle.coordinates.specs.Points.{pointWords}
 use Rattle.coordinates.specs.declared.Coordinate.{Coordinate}
 use Rattle.coordinates.specs.declared.Point.{Point}
-use Rattle.groups.specs.Groups.{spellTime}
+use Rattle.coordinates.specs.Coordinates.{Axis, northSouth, eastWest, spellCoordinate}
+use Rattle.coordinates.specs.Points.{pointWords}
 use Rattle.groups.specs.declared.Time.{Time}
+use Rattle.groups.specs.Groups.{spellTime}
 use Rattle.headings.specs.Sequences.{letterOf}
 use Rattle.names.specs.Names.{onto, pieces}
 use Rattle.names.proofs.NameLaws.{pieces-some}
-use Rattle.levels.specs.Levels.{levelWords}
 use Rattle.levels.specs.declared.Level.{Level}
-use Rattle.message.specs.Limits.{nameBytes, mountainLimit, eruption}
-use Rattle.message.specs.Locations.{goodSide, emptySide, goodBound, sideWords, boundWords, dashed, joined, locationWords, extentWords}
-use Rattle.message.specs.Names.{goodName, emptyName, unusedZero, nameWords}
-use Rattle.message.specs.Reports.{phenomena, goodVolcano, mountWords, volcanoWords, phenomenonWords, observationWords, endingWords}
-use Rattle.message.specs.Words.{correctionWords, formWords}
+use Rattle.levels.specs.Levels.{levelWords}
+use Rattle.pens.specs.Pens.{pen, strokes, spaced, Puts, Words}
+use Rattle.pens.proofs.PenLaws.{nothing, then, no-words, and-then, renamed, fixed, a-space, goes-on}
 use Rattle.message.specs.declared.Bound.{Bound}
 use Rattle.message.specs.declared.Ending.{Ending}
 use Rattle.message.specs.declared.Extent.{Extent}
@@ -45,9 +42,12 @@ use Rattle.message.specs.declared.Observation.{Observation}
 use Rattle.message.specs.declared.Record.{Record}
 use Rattle.message.specs.declared.Side.{Side}
 use Rattle.message.specs.declared.Volcano.{Volcano}
+use Rattle.message.specs.Limits.{nameBytes, mountainLimit, eruption}
+use Rattle.message.specs.Locations.{goodSide, emptySide, goodBound, sideWords, boundWords, dashed, joined, locationWords, extentWords}
+use Rattle.message.specs.Names.{goodName, emptyName, unusedZero, nameWords}
+use Rattle.message.specs.Reports.{phenomena, goodVolcano, mountWords, volcanoWords, phenomenonWords, observationWords, endingWords}
+use Rattle.message.specs.Words.{correctionWords, formWords}
 use Rattle.message.proofs.Goodness.{name-parts, side-parts, bound-cases, phenomenon-cases}
-use Rattle.pens.specs.Pens.{pen, strokes, spaced, Puts, Words}
-use Rattle.pens.proofs.PenLaws.{nothing, then, no-words, and-then, renamed, fixed, a-space, goes-on}
 use Rattle.writer_sections.specs.Sections.{GoodPhenomenon, GoodMount, testWords, namedWords, firstWord, secondWord, freezingRain, observedWord}
 use Rattle.writer_sections.proofs.Tables.{stretched}
 

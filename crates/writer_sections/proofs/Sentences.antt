@@ -6,9 +6,9 @@ use mathlib.Core.Path.{_≡_}
 use Prim.Native.Nat.{ℕ}
 use Rattle.words.specs.Words.{line}
 use Rattle.figures.specs.Codes.{FixedWord, spellCode}
-use Rattle.message.specs.Words.{newLine}
 use Rattle.pens.specs.Pens.{Puts, Words, Line}
 use Rattle.pens.proofs.PenLaws.{then, and-then, renamed, fixed, a-space, goes-on, line-text}
+use Rattle.message.specs.Words.{newLine}
 
 -- a byte, and the text behind it
 pub byte : {x : ℕ} {t : List ℕ} {at n m : ℕ} {page p q : List ℕ} → Puts (x ∷ []) at page n p → Puts t n p m q → Puts (x ∷ t) at page m q

@@ -12,29 +12,29 @@ use lib.ListN.{getD, take}
 use Rattle.lists.specs.Choice.{pick, either}
 use Rattle.lists.specs.Text.{bytes}
 use Rattle.figures.specs.Figures.{inFigures}
-use Rattle.coordinates.specs.Coordinates.{Axis}
 use Rattle.coordinates.specs.declared.Point.{Point}
-use Rattle.groups.specs.Groups.{spellPeriod, spellTime}
+use Rattle.coordinates.specs.Coordinates.{Axis}
 use Rattle.groups.specs.declared.Group.{Group}
 use Rattle.groups.specs.declared.Time.{Time}
-use Rattle.headings.specs.Sequences.{spellSequence}
+use Rattle.groups.specs.Groups.{spellPeriod, spellTime}
 use Rattle.headings.specs.declared.Sequence.{Sequence}
+use Rattle.headings.specs.Sequences.{spellSequence}
 use Rattle.levels.specs.Levels.{feetFigures}
+use Rattle.motions.specs.declared.Speed.{Speed}
 use Rattle.motions.specs.Motions.{spellCompass, spellIntensity}
 use Rattle.motions.specs.Speeds.{spellSpeed}
-use Rattle.motions.specs.declared.Speed.{Speed}
-use Rattle.message.specs.Limits.{mountainLimit, cta}
-use Rattle.message.specs.Locations.{joined, extentWords}
-use Rattle.message.specs.Names.{goodName, emptyName}
-use Rattle.message.specs.Reports.{phenomena, goodPhenomenon, goodEnding, goodReport}
-use Rattle.message.specs.Records.{good}
-use Rattle.message.specs.Words.{testTexts, textOf}
 use Rattle.message.specs.declared.Ending.{Ending}
 use Rattle.message.specs.declared.Extent.{Extent}
 use Rattle.message.specs.declared.Name.{Name}
 use Rattle.message.specs.declared.Record.{Record}
 use Rattle.message.specs.declared.Report.{Report}
 use Rattle.message.specs.declared.Volcano.{Volcano}
+use Rattle.message.specs.Limits.{mountainLimit, cta}
+use Rattle.message.specs.Locations.{joined, extentWords}
+use Rattle.message.specs.Names.{goodName, emptyName}
+use Rattle.message.specs.Records.{good}
+use Rattle.message.specs.Reports.{phenomena, goodPhenomenon, goodEnding, goodReport}
+use Rattle.message.specs.Words.{testTexts, textOf}
 
 -- what `put_text` puts: the canonical text of a good record, and nothing of any other
 abbrev pub goodText : Record → List ℕ

@@ -8,15 +8,15 @@ use Rattle.message.specs.declared.FirstLine.{FirstLine}
 use Rattle.message.specs.declared.Form.{Form}
 use Rattle.message.specs.declared.Heading.{Heading}
 use Rattle.message.specs.declared.Report.{Report}
+use Rattle.grammar.specs.declared.Reply.{Reply}
 use Rattle.grammar.specs.Reads.{replyOf, acceptance, refusal}
 use Rattle.grammar.specs.Records.{formed}
 use Rattle.grammar.specs.Runs.{runAt}
 use Rattle.grammar.specs.States.State.{atDesignator}
-use Rattle.grammar.specs.declared.Reply.{Reply}
+use Rattle.reader_sections.specs.declared.steps.Step.{Step}
 use Rattle.reader_sections.specs.Bodies.{BodySays}
 use Rattle.reader_sections.specs.Heads.{OpeningSays}
 use Rattle.reader_sections.specs.Steps.{Before}
-use Rattle.reader_sections.specs.declared.steps.Step.{Step}
 use Rattle.reader_sections.proofs.Leads.{at-last, replied, answered, accepts}
 use Rattle.reader_sections.proofs.read_text.Statement.{statement}
 use Rattle.reader_sections.proofs.read_text.Tie as tie
@@ -32,23 +32,8 @@ module _ {t : List ℕ} {from to : Step} {h : Heading} {l : FirstLine} {a : Area
     read : last .number ≡ 0 → acceptance (formed (record { heading = h; line = l; area = a }) form report) ≡ replyOf (runAt atDesignator t 0)
     read z = sym (accepts b (at-last (opening .says) (body .says (record { heading = h; line = l; area = a }) refl refl refl)) z)
 
-step-at-requires : tie.Need-step-at-requires
-step-at-requires c κs = search needs
-
-read-opening-requires : tie.Need-read-opening-requires
-read-opening-requires c κs = search needs
-
-refusal-requires : tie.Need-refusal-requires
-refusal-requires c κs = search needs
-
 returns : tie.Need-returns
 returns c = search (early, needs)
-
-read-body-requires : tie.Need-read-body-requires
-read-body-requires c κs = search needs
-
-refusal-requires-2 : tie.Need-refusal-requires-2
-refusal-requires-2 c κs = search needs
 
 returns-2 : tie.Need-returns-2
 returns-2 c =
@@ -61,4 +46,5 @@ returns-3 c = search (read, needs)
 pub read-text-spec : {M : Type 1} → statement M
 read-text-spec =
     tie.close
-    (tie.spec step-at-requires read-opening-requires refusal-requires returns read-body-requires refusal-requires-2 returns-2 returns-3)
+    (tie.spec (λ c κs. search needs) (λ c κs. search needs) (λ c κs. search needs) returns (λ c κs. search needs)
+    (λ c κs. search needs) returns-2 returns-3)

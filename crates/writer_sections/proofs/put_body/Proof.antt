@@ -1,7 +1,7 @@
 -- `put_body` meets its contract: the form goes on from the area. Assumes nothing.
 use borrow.Author.Needs.{needs}
-use Rattle.message.specs.Words.{areaWords, bodyWords}
 use Rattle.pens.proofs.PenLaws.{line-on}
+use Rattle.message.specs.Words.{areaWords, bodyWords}
 use Rattle.writer_sections.proofs.RecordLaws.{area-fits}
 use Rattle.writer_sections.proofs.put_body.Statement.{statement}
 use Rattle.writer_sections.proofs.put_body.Tie as tie

@@ -4,17 +4,17 @@ use mathlib.Core.Bool.{false}
 use mathlib.Core.List.{List}
 use mathlib.Core.Path.{refl}
 use Prim.Native.Nat.{ℕ}
-use Rattle.reader_sections.specs.declared.steps.Step.{Step}
 use lib.ListN.{take}
 use Rattle.figures.specs.Letters.{lettersOf, goodLetters}
 use Rattle.names.specs.Names.{closingOf, goodClosing}
-use Rattle.message.specs.Limits.{nameBytes}
 use Rattle.message.specs.declared.Name.{Name}
+use Rattle.message.specs.Limits.{nameBytes}
 use Rattle.grammar.specs.States.State.{atIndicator, atName, atMoreName, atForm}
 use Rattle.grammar.specs.Steps.{step}
+use Rattle.reader_sections.specs.declared.steps.Step.{Step}
 use Rattle.reader_sections.specs.Heads.{AreaSays}
-use Rattle.reader_sections.specs.Steps.{Takes}
 use Rattle.reader_sections.specs.Naming.{NameSays}
+use Rattle.reader_sections.specs.Steps.{Takes}
 use Rattle.reader_sections.proofs.Leads.{then}
 use Rattle.reader_sections.proofs.NameText.{areaClosed, area-takes, name-closed}
 use Rattle.reader_sections.proofs.area.read_area.Statement.{statement}
@@ -31,17 +31,8 @@ area {i = i} {n = n} letters name closing = record {
   stands = closing .stands;
 }
 
-letters-at-requires : tie.Need-letters-at-requires
-letters-at-requires c κs = search needs
-
-read-name-requires : tie.Need-read-name-requires
-read-name-requires c κs = search needs
-
-closing-at-requires : tie.Need-closing-at-requires
-closing-at-requires c κs = search needs
-
 returns : tie.Need-returns
 returns c = search area
 
 pub read-area-spec : {M : Type 1} → statement M
-read-area-spec = tie.close (tie.spec letters-at-requires read-name-requires closing-at-requires returns)
+read-area-spec = tie.close (tie.spec (λ c κs. search needs) (λ c κs. search needs) (λ c κs. search needs) returns)

@@ -2,15 +2,15 @@
 use borrow.Author.Needs.{needs}
 use mathlib.Core.List.{List}
 use Prim.Native.Nat.{ℕ}
-use Rattle.reader_sections.specs.Forms.{CancellationSays}
-use Rattle.message.specs.Reports.{noReport}
-use Rattle.message.specs.declared.FirstLine.{FirstLine}
-use Rattle.headings.specs.declared.Sequence.{Sequence}
 use Rattle.groups.specs.declared.Group.{Group}
+use Rattle.headings.specs.declared.Sequence.{Sequence}
+use Rattle.message.specs.declared.FirstLine.{FirstLine}
 use Rattle.message.specs.declared.Form.the-variants.{Cancellation}
-use Rattle.reader_sections.specs.Bodies.{CancellationBodySays}
-use Rattle.reader_sections.specs.Steps.{Closes}
+use Rattle.message.specs.Reports.{noReport}
 use Rattle.reader_sections.specs.declared.steps.Step.{Step}
+use Rattle.reader_sections.specs.Bodies.{CancellationBodySays}
+use Rattle.reader_sections.specs.Forms.{CancellationSays}
+use Rattle.reader_sections.specs.Steps.{Closes}
 use Rattle.reader_sections.proofs.Leads.{at-last}
 use Rattle.reader_sections.proofs.body.cancellation_body.Statement.{statement}
 use Rattle.reader_sections.proofs.body.cancellation_body.Tie as tie
@@ -19,14 +19,8 @@ ended : {t : List ℕ} {from a to : Step} {line : FirstLine} {s : Sequence} {sin
     → CancellationBodySays line t from to (Cancellation s since) noReport
 ended cancelled end = record { says = λ o l. at-last (cancelled .says o l) (end .says _ _ (cancelled .stands)) }
 
-read-cancellation-requires : tie.Need-read-cancellation-requires
-read-cancellation-requires c κs = search needs
-
-concluding-requires : tie.Need-concluding-requires
-concluding-requires c κs = search needs
-
 returns : tie.Need-returns
 returns c = search ended
 
 pub cancellation-body-spec : {M : Type 1} → statement M
-cancellation-body-spec = tie.close (tie.spec read-cancellation-requires concluding-requires returns)
+cancellation-body-spec = tie.close (tie.spec (λ c κs. search needs) (λ c κs. search needs) returns)

@@ -1,21 +1,20 @@
 -- `read_body` meets its contract: TEST, `TEST.` and CNL are told by their codes, and any other word is judged as a phenomenon. Assumes nothing.
 use borrow.Author.Needs.{needs}
 use mathlib.Core.List.{List}
-use mathlib.Core.Path.{_≡_}
+use mathlib.Core.Path.{_≡_, ap}
 use Prim.Native.Nat.{ℕ}
-use mathlib.Core.Path.{ap}
-use Rattle.message.specs.Words.{timeOfDay}
+use Rattle.vocabulary.proofs.FixedWords.{fixed-test, fixed-test-stop, fixed-cnl}
 use Rattle.message.specs.declared.FirstLine.{FirstLine}
-use Rattle.message.specs.declared.Form.{Form}
 use Rattle.message.specs.declared.Form.the-variants.{Reported}
+use Rattle.message.specs.declared.Form.{Form}
 use Rattle.message.specs.declared.Report.{Report}
+use Rattle.message.specs.Words.{timeOfDay}
 use Rattle.grammar.specs.States.State.{atForm, atTest, atTestText, atCancelSigmet}
 use Rattle.grammar.specs.Steps.{stepForm, step}
-use Rattle.vocabulary.proofs.FixedWords.{fixed-test, fixed-test-stop, fixed-cnl}
+use Rattle.reader_sections.specs.declared.steps.Step.{Step}
 use Rattle.reader_sections.specs.Bodies.{TestBodySays, LongTestBodySays, CancellationBodySays, BodySays}
 use Rattle.reader_sections.specs.Reports.{ReportSays}
 use Rattle.reader_sections.specs.Steps.{Stands, Before}
-use Rattle.reader_sections.specs.declared.steps.Step.{Step}
 use Rattle.reader_sections.proofs.FormLaws.{codeAt, takes-code}
 use Rattle.reader_sections.proofs.Leads.{at-last, code-no}
 use Rattle.reader_sections.proofs.body.read_body.Statement.{statement}
@@ -52,38 +51,14 @@ module _ {kind closing code : ℕ} {line : FirstLine} {t : List ℕ} {from to : 
             });
       }
 
-code-of-requires : tie.Need-code-of-requires
-code-of-requires c κs = search needs
-
-step-at-requires : tie.Need-step-at-requires
-step-at-requires c κs = search needs
-
-test-body-requires : tie.Need-test-body-requires
-test-body-requires c κs = search needs
-
 returns : tie.Need-returns
 returns c = search test
-
-step-at-requires-2 : tie.Need-step-at-requires-2
-step-at-requires-2 c κs = search needs
-
-long-test-body-requires : tie.Need-long-test-body-requires
-long-test-body-requires c κs = search needs
 
 returns-2 : tie.Need-returns-2
 returns-2 c = search long-test
 
-step-at-requires-3 : tie.Need-step-at-requires-3
-step-at-requires-3 c κs = search needs
-
-cancellation-body-requires : tie.Need-cancellation-body-requires
-cancellation-body-requires c κs = search needs
-
 returns-3 : tie.Need-returns-3
 returns-3 c = search cancellation
-
-read-report-requires : tie.Need-read-report-requires
-read-report-requires c κs = search needs
 
 returns-4 : tie.Need-returns-4
 returns-4 c = search reported
@@ -91,16 +66,6 @@ returns-4 c = search reported
 pub read-body-spec : {M : Type 1} → statement M
 read-body-spec =
     tie.close
-    (tie.spec
-    code-of-requires
-    step-at-requires
-    test-body-requires
-    returns
-    step-at-requires-2
-    long-test-body-requires
-    returns-2
-    step-at-requires-3
-    cancellation-body-requires
-    returns-3
-    read-report-requires
+    (tie.spec (λ c κs. search needs) (λ c κs. search needs) (λ c κs. search needs) returns (λ c κs. search needs)
+    (λ c κs. search needs) returns-2 (λ c κs. search needs) (λ c κs. search needs) returns-3 (λ c κs. search needs)
     returns-4)

@@ -3,18 +3,18 @@ use borrow.Author.Needs.{needs}
 use mathlib.Core.List.{List}
 use mathlib.Core.Path.{refl}
 use Prim.Native.Nat.{ℕ}
-use Rattle.groups.specs.Groups.{periodOf}
+use Rattle.vocabulary.proofs.FixedWords.{fixed-sigmet}
 use Rattle.groups.specs.declared.Period.{Period}
-use Rattle.headings.specs.Sequences.{sequenceOf, goodSequence}
+use Rattle.groups.specs.Groups.{periodOf}
 use Rattle.headings.specs.declared.Sequence.{Sequence}
+use Rattle.headings.specs.Sequences.{sequenceOf, goodSequence}
 use Rattle.message.specs.declared.FirstLine.{FirstLine}
 use Rattle.grammar.specs.Records.{cancellationOf}
 use Rattle.grammar.specs.States.State.{atCancelSigmet, atCancelSequence, atCancelPeriod, atEnd}
 use Rattle.grammar.specs.Steps.{step, cancels}
-use Rattle.vocabulary.proofs.FixedWords.{fixed-sigmet}
+use Rattle.reader_sections.specs.declared.steps.Step.{Step}
 use Rattle.reader_sections.specs.Forms.{CancellationSays}
 use Rattle.reader_sections.specs.Steps.{Takes, TakesFixed}
-use Rattle.reader_sections.specs.declared.steps.Step.{Step}
 use Rattle.reader_sections.proofs.Leads.{then}
 use Rattle.reader_sections.proofs.cancellation.read_cancellation.Statement.{statement}
 use Rattle.reader_sections.proofs.cancellation.read_cancellation.Tie as tie
@@ -29,18 +29,10 @@ cancelled {s = s} sigmet sequence period = record {
   stands = period .stands;
 }
 
-fixed-at-requires : tie.Need-fixed-at-requires
-fixed-at-requires c κs = search needs
-
-sequence-at-requires : tie.Need-sequence-at-requires
-sequence-at-requires c κs = search needs
-
-cancelled-at-requires : tie.Need-cancelled-at-requires
-cancelled-at-requires c κs = search needs
-
 returns : tie.Need-returns
 returns c = search cancelled
 
 pub read-cancellation-spec : {M : Type 1} → statement M
 read-cancellation-spec =
-    tie.close (tie.spec fixed-at-requires sequence-at-requires cancelled-at-requires returns)
+    tie.close
+    (tie.spec (λ c κs. search needs) (λ c κs. search needs) (λ c κs. search needs) returns)

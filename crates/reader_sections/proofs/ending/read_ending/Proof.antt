@@ -1,28 +1,27 @@
 -- `read_ending` meets its contract: by its first word it moves, has a forecast (a WS), or stands still. Assumes nothing.
 use borrow.Author.Needs.{needs}
-use mathlib.Core.List.{List}
-use mathlib.Core.Path.{_≡_, refl}
-use Prim.Native.Nat.{ℕ}
-use Rattle.reader_sections.specs.declared.steps.Step.{Step}
-use Rattle.lists.specs.Lists.{part}
-use Rattle.figures.specs.Codes.{codeOf}
 use mathlib.Core.Bool.{Bool, true, false, not}
-use mathlib.Core.Path.{sym, _∙_}
+use mathlib.Core.List.{List}
+use mathlib.Core.Path.{_≡_, refl, sym, _∙_}
+use Prim.Native.Nat.{ℕ}
 use lib.Dec.{eqb}
 use borrow.Author.Tests.{eq-eqb, ne-eqb, eqb-true, eqb-false}
 use Rattle.lists.specs.Choice.{both}
+use Rattle.lists.specs.Lists.{part}
 use Rattle.lists.proofs.Choice.{by}
+use Rattle.figures.specs.Codes.{codeOf}
+use Rattle.vocabulary.proofs.FixedWords.{fixed-mov, fixed-stnr}
 use Rattle.groups.specs.declared.Time.{Time}
+use Rattle.motions.specs.Motions.{intensityOf, goodIntensity}
+use Rattle.message.specs.declared.Ending.the-variants.{Stationary}
+use Rattle.message.specs.declared.Ending.{Ending}
+use Rattle.message.specs.declared.Extent.{Extent}
 use Rattle.message.specs.Limits.{ws}
 use Rattle.message.specs.Locations.{noExtent}
-use Rattle.message.specs.declared.Ending.{Ending}
-use Rattle.message.specs.declared.Ending.the-variants.{Stationary}
-use Rattle.message.specs.declared.Extent.{Extent}
-use Rattle.motions.specs.Motions.{intensityOf, goodIntensity}
 use Rattle.grammar.specs.Records.{areaOf, reportOf}
 use Rattle.grammar.specs.States.State.{atEnding, atCompass, atStationary, atEnd}
 use Rattle.grammar.specs.Steps.{kindOf, stepEnding, step}
-use Rattle.vocabulary.proofs.FixedWords.{fixed-mov, fixed-stnr}
+use Rattle.reader_sections.specs.declared.steps.Step.{Step}
 use Rattle.reader_sections.specs.Endings.{MovingSays, ForecastSays, EndingSays}
 use Rattle.reader_sections.specs.Steps.{Stands, Before, Judged, Takes}
 use Rattle.reader_sections.proofs.FirstWords.{both-these, not-both}
@@ -64,35 +63,17 @@ module _ {t : List ℕ} {from to : Step} {code : ℕ} (f : Stands t from) (e : c
       stands = intensity .stands;
     }
 
-code-of-requires : tie.Need-code-of-requires
-code-of-requires c κs = search needs
-
-step-at-requires : tie.Need-step-at-requires
-step-at-requires c κs = search needs
-
-read-moving-requires : tie.Need-read-moving-requires
-read-moving-requires c κs = search needs
-
 returns : tie.Need-returns
 returns c = search (moves, needs)
 
-both-requires : tie.Need-both-requires
-both-requires c κs = search needs
-
-read-forecast-requires : tie.Need-read-forecast-requires
-read-forecast-requires c κs = search needs
-
 returns-2 : tie.Need-returns-2
 returns-2 c = search (with-forecast, needs)
-
-judged-requires : tie.Need-judged-requires
-judged-requires c κs = search needs
-
-intensity-at-requires : tie.Need-intensity-at-requires
-intensity-at-requires c κs = search needs
 
 returns-3 : tie.Need-returns-3
 returns-3 c = search (still, needs)
 
 pub read-ending-spec : {M : Type 1} → statement M
-read-ending-spec = tie.close (tie.spec code-of-requires step-at-requires read-moving-requires returns both-requires read-forecast-requires returns-2 judged-requires intensity-at-requires returns-3)
+read-ending-spec =
+    tie.close
+    (tie.spec (λ c κs. search needs) (λ c κs. search needs) (λ c κs. search needs) returns (λ c κs. search needs)
+    (λ c κs. search needs) returns-2 (λ c κs. search needs) (λ c κs. search needs) returns-3)

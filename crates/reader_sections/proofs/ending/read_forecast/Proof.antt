@@ -3,20 +3,20 @@ use borrow.Author.Needs.{needs}
 use mathlib.Core.List.{List}
 use mathlib.Core.Path.{refl}
 use Prim.Native.Nat.{ℕ}
-use Rattle.reader_sections.specs.declared.steps.Step.{Step}
-use Rattle.groups.specs.Groups.{timeOf}
+use Rattle.vocabulary.proofs.FixedWords.{fixed-fcst, fixed-at}
 use Rattle.groups.specs.declared.Time.{Time}
+use Rattle.groups.specs.Groups.{timeOf}
+use Rattle.motions.specs.Motions.{intensityOf, goodIntensity}
 use Rattle.message.specs.declared.Ending.the-variants.{Forecast}
 use Rattle.message.specs.declared.Extent.{Extent}
-use Rattle.motions.specs.Motions.{intensityOf, goodIntensity}
 use Rattle.grammar.specs.States.Placing.{atLocation}
 use Rattle.grammar.specs.States.Site.{inForecast}
 use Rattle.grammar.specs.States.State.{atEnding, atForecast, atForecastAt, atForecastTime, atPlace}
 use Rattle.grammar.specs.Steps.{step}
-use Rattle.vocabulary.proofs.FixedWords.{fixed-fcst, fixed-at}
+use Rattle.reader_sections.specs.declared.steps.Step.{Step}
 use Rattle.reader_sections.specs.Endings.{forecastTime, ForecastSays}
-use Rattle.reader_sections.specs.Steps.{Takes, TakesFixed}
 use Rattle.reader_sections.specs.Locations.{LocatedInSays}
+use Rattle.reader_sections.specs.Steps.{Takes, TakesFixed}
 use Rattle.reader_sections.proofs.FirstWords.{time-judged}
 use Rattle.reader_sections.proofs.Leads.{then}
 use Rattle.reader_sections.proofs.ending.read_forecast.Statement.{statement}
@@ -34,23 +34,11 @@ forecast {i = i} intensity fcst at time location = record {
   stands = location .stands;
 }
 
-intensity-at-requires : tie.Need-intensity-at-requires
-intensity-at-requires c κs = search needs
-
-fixed-at-requires : tie.Need-fixed-at-requires
-fixed-at-requires c κs = search needs
-
-fixed-at-requires-2 : tie.Need-fixed-at-requires-2
-fixed-at-requires-2 c κs = search needs
-
-forecast-time-at-requires : tie.Need-forecast-time-at-requires
-forecast-time-at-requires c κs = search needs
-
-read-location-requires : tie.Need-read-location-requires
-read-location-requires c κs = search needs
-
 returns : tie.Need-returns
 returns c = search forecast
 
 pub read-forecast-spec : {M : Type 1} → statement M
-read-forecast-spec = tie.close (tie.spec intensity-at-requires fixed-at-requires fixed-at-requires-2 forecast-time-at-requires read-location-requires returns)
+read-forecast-spec =
+    tie.close
+    (tie.spec (λ c κs. search needs) (λ c κs. search needs) (λ c κs. search needs) (λ c κs. search needs)
+    (λ c κs. search needs) returns)

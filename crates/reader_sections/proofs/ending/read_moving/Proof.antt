@@ -3,15 +3,15 @@ use borrow.Author.Needs.{needs}
 use mathlib.Core.List.{List}
 use mathlib.Core.Path.{refl}
 use Prim.Native.Nat.{ℕ}
-use Rattle.reader_sections.specs.declared.steps.Step.{Step}
-use Rattle.message.specs.Locations.{noExtent}
-use Rattle.message.specs.declared.Ending.the-variants.{Moving}
+use Rattle.motions.specs.declared.Speed.{Speed}
 use Rattle.motions.specs.Motions.{compassOf, goodCompass, intensityOf, goodIntensity}
 use Rattle.motions.specs.Speeds.{speedOf, goodSpeed}
-use Rattle.motions.specs.declared.Speed.{Speed}
+use Rattle.message.specs.declared.Ending.the-variants.{Moving}
+use Rattle.message.specs.Locations.{noExtent}
 use Rattle.grammar.specs.Records.{reportOf}
 use Rattle.grammar.specs.States.State.{atCompass, atSpeed, atMovingIntensity, atEnd}
 use Rattle.grammar.specs.Steps.{step}
+use Rattle.reader_sections.specs.declared.steps.Step.{Step}
 use Rattle.reader_sections.specs.Endings.{MovingSays}
 use Rattle.reader_sections.specs.Steps.{Takes}
 use Rattle.reader_sections.proofs.Leads.{then}
@@ -28,17 +28,8 @@ moving {d = d} {v = v} compass speed intensity = record {
   stands = intensity .stands;
 }
 
-compass-at-requires : tie.Need-compass-at-requires
-compass-at-requires c κs = search needs
-
-speed-at-requires : tie.Need-speed-at-requires
-speed-at-requires c κs = search needs
-
-intensity-at-requires : tie.Need-intensity-at-requires
-intensity-at-requires c κs = search needs
-
 returns : tie.Need-returns
 returns c = search moving
 
 pub read-moving-spec : {M : Type 1} → statement M
-read-moving-spec = tie.close (tie.spec compass-at-requires speed-at-requires intensity-at-requires returns)
+read-moving-spec = tie.close (tie.spec (λ c κs. search needs) (λ c κs. search needs) (λ c κs. search needs) returns)

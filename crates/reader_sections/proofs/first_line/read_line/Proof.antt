@@ -4,17 +4,17 @@ use mathlib.Core.List.{List}
 use mathlib.Core.Path.{refl}
 use Prim.Native.Nat.{ℕ}
 use Rattle.figures.specs.Letters.{lettersOf, goodLetters}
-use Rattle.groups.specs.Groups.{periodOf, goodPeriod}
+use Rattle.vocabulary.proofs.FixedWords.{fixed-sigmet, fixed-valid}
 use Rattle.groups.specs.declared.Period.{Period}
+use Rattle.groups.specs.Groups.{periodOf, goodPeriod}
+use Rattle.headings.specs.declared.Sequence.{Sequence}
 use Rattle.headings.specs.Headings.{officeOf}
 use Rattle.headings.specs.Sequences.{sequenceOf, goodSequence}
-use Rattle.headings.specs.declared.Sequence.{Sequence}
 use Rattle.grammar.specs.States.State.{atUnit, atSigmet, atSequence, atValid, atPeriod, atOffice, atIndicator}
 use Rattle.grammar.specs.Steps.{step}
-use Rattle.vocabulary.proofs.FixedWords.{fixed-sigmet, fixed-valid}
+use Rattle.reader_sections.specs.declared.steps.Step.{Step}
 use Rattle.reader_sections.specs.Heads.{LineSays}
 use Rattle.reader_sections.specs.Steps.{Takes, TakesFixed}
-use Rattle.reader_sections.specs.declared.steps.Step.{Step}
 use Rattle.reader_sections.proofs.Leads.{then}
 use Rattle.reader_sections.proofs.first_line.read_line.Statement.{statement}
 use Rattle.reader_sections.proofs.first_line.read_line.Tie as tie
@@ -33,35 +33,11 @@ line {u = u} {s = s} {p = p} unit sigmet sequence valid period office = record {
   stands = office .stands;
 }
 
-letters-at-requires : tie.Need-letters-at-requires
-letters-at-requires c κs = search needs
-
-fixed-at-requires : tie.Need-fixed-at-requires
-fixed-at-requires c κs = search needs
-
-sequence-at-requires : tie.Need-sequence-at-requires
-sequence-at-requires c κs = search needs
-
-fixed-at-requires-2 : tie.Need-fixed-at-requires-2
-fixed-at-requires-2 c κs = search needs
-
-period-at-requires : tie.Need-period-at-requires
-period-at-requires c κs = search needs
-
-office-at-requires : tie.Need-office-at-requires
-office-at-requires c κs = search needs
-
 returns : tie.Need-returns
 returns c = search line
 
 pub read-line-spec : {M : Type 1} → statement M
 read-line-spec =
     tie.close
-    (tie.spec
-    letters-at-requires
-    fixed-at-requires
-    sequence-at-requires
-    fixed-at-requires-2
-    period-at-requires
-    office-at-requires
-    returns)
+    (tie.spec (λ c κs. search needs) (λ c κs. search needs) (λ c κs. search needs) (λ c κs. search needs)
+    (λ c κs. search needs) (λ c κs. search needs) returns)

@@ -3,14 +3,14 @@ use borrow.Author.Needs.{needs}
 use mathlib.Core.List.{List}
 use mathlib.Core.Path.{refl}
 use Prim.Native.Nat.{ℕ}
-use Rattle.reader_sections.specs.declared.steps.Step.{Step}
 use Rattle.figures.specs.Letters.{lettersOf, goodLetters}
-use Rattle.groups.specs.Groups.{groupOf, goodGroup}
 use Rattle.groups.specs.declared.Group.{Group}
-use Rattle.headings.specs.Headings.{designatorOf, goodDesignator}
+use Rattle.groups.specs.Groups.{groupOf, goodGroup}
 use Rattle.headings.specs.declared.Designator.{Designator}
+use Rattle.headings.specs.Headings.{designatorOf, goodDesignator}
 use Rattle.grammar.specs.States.State.{atDesignator, atCentre, atSent, atCorrection}
 use Rattle.grammar.specs.Steps.{step}
+use Rattle.reader_sections.specs.declared.steps.Step.{Step}
 use Rattle.reader_sections.specs.Heads.{CorrectionSays, HeadingSays}
 use Rattle.reader_sections.specs.Steps.{Takes}
 use Rattle.reader_sections.proofs.Leads.{then}
@@ -28,20 +28,10 @@ heading {d = d} {n = n} {g = g} designator centre sent correction = record {
   stands = correction .stands;
 }
 
-designator-at-requires : tie.Need-designator-at-requires
-designator-at-requires c κs = search needs
-
-letters-at-requires : tie.Need-letters-at-requires
-letters-at-requires c κs = search needs
-
-group-at-requires : tie.Need-group-at-requires
-group-at-requires c κs = search needs
-
-read-correction-requires : tie.Need-read-correction-requires
-read-correction-requires c κs = search needs
-
 returns : tie.Need-returns
 returns c = search heading
 
 pub read-heading-spec : {M : Type 1} → statement M
-read-heading-spec = tie.close (tie.spec designator-at-requires letters-at-requires group-at-requires read-correction-requires returns)
+read-heading-spec =
+    tie.close
+    (tie.spec (λ c κs. search needs) (λ c κs. search needs) (λ c κs. search needs) (λ c κs. search needs) returns)

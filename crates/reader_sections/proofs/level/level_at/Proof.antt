@@ -1,14 +1,13 @@
 -- `level_at` meets its contract: a word is a level where its level is not empty. Assumes nothing.
 use borrow.Author.Needs.{needs}
-use mathlib.Core.List.{List}
-use mathlib.Core.Path.{_≡_}
-use Prim.Native.Nat.{ℕ}
-use Rattle.reader_sections.specs.declared.steps.Step.{Step}
 use mathlib.Core.Bool.{Bool, not}
-use mathlib.Core.Path.{ap, _∙_}
+use mathlib.Core.List.{List}
+use mathlib.Core.Path.{_≡_, ap, _∙_}
+use Prim.Native.Nat.{ℕ}
 use Rattle.lists.specs.Lists.{part}
-use Rattle.levels.specs.Levels.{levelOf, goodLevelWord, emptyLevel}
 use Rattle.levels.specs.declared.Level.{Level}
+use Rattle.levels.specs.Levels.{levelOf, goodLevelWord, emptyLevel}
+use Rattle.reader_sections.specs.declared.steps.Step.{Step}
 use Rattle.reader_sections.specs.Steps.{Stands, Judged, Takes}
 use Rattle.reader_sections.proofs.FirstWords.{level-none, level-good}
 use Rattle.reader_sections.proofs.Leads.{takes}
@@ -19,26 +18,11 @@ level : {t : List ℕ} {from to : Step} {l : Level} {empty : Bool} → Stands t 
     → Takes levelOf goodLevelWord 10 t from to l
 level f e b j = takes f j level-none e (ap not b ∙ level-good _ _ e)
 
-sub-level-word : tie.Need-sub-level-word
-sub-level-word c = search needs
-
-part-level-word-start : tie.Need-part-level-word-start
-part-level-word-start c = search needs
-
-part-level-word-end : tie.Need-part-level-word-end
-part-level-word-end c = search needs
-
-level-word-requires : tie.Need-level-word-requires
-level-word-requires c κs = search needs
-
-empty-level-requires : tie.Need-empty-level-requires
-empty-level-requires c κs = search needs
-
-judged-requires : tie.Need-judged-requires
-judged-requires c κs = search needs
-
 returns : tie.Need-returns
 returns c = search (level, needs)
 
 pub level-at-spec : {M : Type 1} → statement M
-level-at-spec = tie.close (tie.spec sub-level-word part-level-word-start part-level-word-end level-word-requires empty-level-requires judged-requires returns)
+level-at-spec =
+    tie.close
+    (tie.spec (search needs) (search needs) (search needs) (λ c κs. search needs) (λ c κs. search needs)
+    (λ c κs. search needs) returns)

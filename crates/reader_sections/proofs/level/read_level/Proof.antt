@@ -3,17 +3,17 @@ use borrow.Author.Needs.{needs}
 use mathlib.Core.List.{List}
 use mathlib.Core.Path.{_≡_, refl}
 use Prim.Native.Nat.{ℕ}
-use Rattle.reader_sections.specs.declared.steps.Step.{Step}
 use Rattle.lists.specs.Lists.{part}
 use Rattle.figures.specs.Codes.{codeOf}
-use Rattle.levels.specs.Levels.{levelOf, goodLevelWord, flight}
-use Rattle.levels.specs.declared.Level.{Level}
+use Rattle.vocabulary.proofs.FixedWords.{fixed-top, fixed-abv}
 use Rattle.levels.specs.declared.Level.the-variants.{AboveFlight}
+use Rattle.levels.specs.declared.Level.{Level}
+use Rattle.levels.specs.Levels.{levelOf, goodLevelWord, flight}
 use Rattle.grammar.specs.States.State.{atLevel, atTop, atAbove}
 use Rattle.grammar.specs.Steps.{levelled, stepLevel, step}
-use Rattle.vocabulary.proofs.FixedWords.{fixed-top, fixed-abv}
-use Rattle.reader_sections.specs.Steps.{Stands, Before, Takes}
+use Rattle.reader_sections.specs.declared.steps.Step.{Step}
 use Rattle.reader_sections.specs.Reports.{flightIn, TopSays, LevelSays}
+use Rattle.reader_sections.specs.Steps.{Stands, Before, Takes}
 use Rattle.reader_sections.proofs.Leads.{then, goes-code, code-going, code-yes, code-no}
 use Rattle.reader_sections.proofs.level.read_level.Statement.{statement}
 use Rattle.reader_sections.proofs.level.read_level.Tie as tie
@@ -43,32 +43,17 @@ module _ {t : List ℕ} {from to : Step} {code : ℕ} (f : Stands t from) (e : c
     stands = level .stands;
   }
 
-code-of-requires : tie.Need-code-of-requires
-code-of-requires c κs = search needs
-
-step-at-requires : tie.Need-step-at-requires
-step-at-requires c κs = search needs
-
-read-top-requires : tie.Need-read-top-requires
-read-top-requires c κs = search needs
-
 returns : tie.Need-returns
 returns c = search (begins-top, needs)
 
-step-at-requires-2 : tie.Need-step-at-requires-2
-step-at-requires-2 c κs = search needs
-
-flight-at-requires : tie.Need-flight-at-requires
-flight-at-requires c κs = search needs
-
 returns-2 : tie.Need-returns-2
 returns-2 c = search (begins-above, needs)
-
-level-at-requires : tie.Need-level-at-requires
-level-at-requires c κs = search needs
 
 returns-3 : tie.Need-returns-3
 returns-3 c = search (one-word, needs)
 
 pub read-level-spec : {M : Type 1} → statement M
-read-level-spec = tie.close (tie.spec code-of-requires step-at-requires read-top-requires returns step-at-requires-2 flight-at-requires returns-2 level-at-requires returns-3)
+read-level-spec =
+    tie.close
+    (tie.spec (λ c κs. search needs) (λ c κs. search needs) (λ c κs. search needs) returns (λ c κs. search needs)
+    (λ c κs. search needs) returns-2 (λ c κs. search needs) returns-3)

@@ -1,17 +1,17 @@
 -- `read_top` meets its contract: perhaps ABV, then FLnnn. Assumes nothing.
 use borrow.Author.Needs.{needs}
+use mathlib.Core.Bool.{Bool, true, false}
 use mathlib.Core.List.{List}
 use mathlib.Core.Path.{_≡_, refl}
 use Prim.Native.Nat.{ℕ}
-use Rattle.reader_sections.specs.declared.steps.Step.{Step}
-use mathlib.Core.Bool.{Bool, true, false}
-use Rattle.levels.specs.Levels.{flight}
+use Rattle.vocabulary.proofs.FixedWords.{fixed-abv}
 use Rattle.levels.specs.declared.Level.the-variants.{TopFlight, TopAboveFlight}
+use Rattle.levels.specs.Levels.{flight}
 use Rattle.grammar.specs.States.State.{atTop, atTopAbove}
 use Rattle.grammar.specs.Steps.{levelled, step}
-use Rattle.vocabulary.proofs.FixedWords.{fixed-abv}
-use Rattle.reader_sections.specs.Steps.{Takes, MayTake}
+use Rattle.reader_sections.specs.declared.steps.Step.{Step}
 use Rattle.reader_sections.specs.Reports.{flightIn, TopSays}
+use Rattle.reader_sections.specs.Steps.{Takes, MayTake}
 use Rattle.reader_sections.proofs.Leads.{then}
 use Rattle.reader_sections.proofs.level.read_top.Statement.{statement}
 use Rattle.reader_sections.proofs.level.read_top.Tie as tie
@@ -32,12 +32,6 @@ module _ {t : List ℕ} {from next to : Step} {found : Bool} {n : ℕ} (above : 
     stands = height .stands;
   }
 
-perhaps-at-requires : tie.Need-perhaps-at-requires
-perhaps-at-requires c κs = search needs
-
-flight-at-requires : tie.Need-flight-at-requires
-flight-at-requires c κs = search needs
-
 returns : tie.Need-returns
 returns c = search (top-above, needs)
 
@@ -45,4 +39,4 @@ returns-2 : tie.Need-returns-2
 returns-2 c = search (top, needs)
 
 pub read-top-spec : {M : Type 1} → statement M
-read-top-spec = tie.close (tie.spec perhaps-at-requires flight-at-requires returns returns-2)
+read-top-spec = tie.close (tie.spec (λ c κs. search needs) (λ c κs. search needs) returns returns-2)

@@ -1,27 +1,26 @@
 -- `read_after_north` meets its contract: without AND the location is over, with it a longitude bound follows. Assumes nothing.
 use borrow.Author.Needs.{needs}
-use mathlib.Core.List.{List}
-use mathlib.Core.Path.{_≡_}
-use Prim.Native.Nat.{ℕ}
-use Rattle.reader_sections.specs.declared.steps.Step.{Step}
-use Rattle.lists.specs.Lists.{part}
-use Rattle.figures.specs.Codes.{codeOf}
 use mathlib.Core.Bool.{Bool, true, false, not}
-use mathlib.Core.Path.{sym}
+use mathlib.Core.List.{List}
+use mathlib.Core.Path.{_≡_, sym}
+use Prim.Native.Nat.{ℕ}
 use lib.Dec.{eqb, lit<}
 use borrow.Author.Tests.{not-true, not-false}
+use Rattle.lists.specs.Lists.{part}
+use Rattle.figures.specs.Codes.{codeOf}
+use Rattle.vocabulary.proofs.FixedWords.{fixed-and}
 use Rattle.coordinates.specs.Coordinates.{eastWest}
-use Rattle.message.specs.Locations.{noSide}
 use Rattle.message.specs.declared.Extent.{Extent}
 use Rattle.message.specs.declared.Side.{Side}
+use Rattle.message.specs.Locations.{noSide}
 use Rattle.grammar.specs.Placing.{placeStep}
 use Rattle.grammar.specs.Records.{bounded}
 use Rattle.grammar.specs.States.Placing.{atAnd, atSecondBound, atLongitudeOf}
 use Rattle.grammar.specs.States.State.{atPlace}
 use Rattle.grammar.specs.Steps.{after}
-use Rattle.vocabulary.proofs.FixedWords.{fixed-and}
-use Rattle.reader_sections.specs.Steps.{Judged, MayTake}
+use Rattle.reader_sections.specs.declared.steps.Step.{Step}
 use Rattle.reader_sections.specs.Locations.{SideSays, LocatedSays}
+use Rattle.reader_sections.specs.Steps.{Judged, MayTake}
 use Rattle.reader_sections.proofs.Leads.{then}
 use Rattle.reader_sections.proofs.Sides.{following-number, on-step, past-step, takes-on, takes-side, side-if}
 use Rattle.reader_sections.proofs.location.read_after_north.Statement.{statement}
@@ -48,29 +47,14 @@ module _ {t : List ℕ} {from next : Step} {refusal : ℕ} {found : Bool} {x : E
         stands = east .stands;
       }
 
-perhaps-at-requires : tie.Need-perhaps-at-requires
-perhaps-at-requires c κs = search needs
-
-bounded-requires : tie.Need-bounded-requires
-bounded-requires c κs = search needs
-
 returns : tie.Need-returns
 returns c = search (alone, needs)
-
-code-of-requires : tie.Need-code-of-requires
-code-of-requires c κs = search needs
-
-side-letter-requires : tie.Need-side-letter-requires
-side-letter-requires c κs = search needs
-
-judged-requires : tie.Need-judged-requires
-judged-requires c κs = search needs
-
-read-east-requires : tie.Need-read-east-requires
-read-east-requires c κs = search needs
 
 returns-2 : tie.Need-returns-2
 returns-2 c = search (second, needs)
 
 pub read-after-north-spec : {M : Type 1} → statement M
-read-after-north-spec = tie.close (tie.spec perhaps-at-requires bounded-requires returns code-of-requires side-letter-requires judged-requires read-east-requires returns-2)
+read-after-north-spec =
+    tie.close
+    (tie.spec (λ c κs. search needs) (λ c κs. search needs) returns (λ c κs. search needs) (λ c κs. search needs)
+    (λ c κs. search needs) (λ c κs. search needs) returns-2)

@@ -3,15 +3,15 @@ use borrow.Author.Needs.{needs}
 use mathlib.Core.List.{List}
 use mathlib.Core.Path.{_≡_}
 use Prim.Native.Nat.{ℕ}
-use Rattle.reader_sections.specs.declared.steps.Step.{Step}
-use Rattle.coordinates.specs.Coordinates.{eastWest, coordinateOf, goodCoordinate}
 use Rattle.coordinates.specs.declared.Coordinate.{Coordinate}
+use Rattle.coordinates.specs.Coordinates.{eastWest, coordinateOf, goodCoordinate}
 use Rattle.message.specs.declared.Extent.{Extent}
 use Rattle.message.specs.declared.Side.{Side}
 use Rattle.grammar.specs.Records.{bounded}
 use Rattle.grammar.specs.States.Placing.{atLongitudeOf}
-use Rattle.reader_sections.specs.Steps.{Takes, TakesFixed}
+use Rattle.reader_sections.specs.declared.steps.Step.{Step}
 use Rattle.reader_sections.specs.Locations.{LocatedSays}
+use Rattle.reader_sections.specs.Steps.{Takes, TakesFixed}
 use Rattle.reader_sections.proofs.Sides.{longitude-bound}
 use Rattle.reader_sections.proofs.location.read_east.Statement.{statement}
 use Rattle.reader_sections.proofs.location.read_east.Tie as tie
@@ -21,17 +21,8 @@ east : {t : List ℕ} {from next to : Step} {refusal side : ℕ} {north : Side} 
     → LocatedSays (atLongitudeOf north side) refusal t from to x
 east of longitude e = record { says = λ site n. rw e (longitude-bound of site n longitude _ _); stands = longitude .stands }
 
-fixed-at-requires : tie.Need-fixed-at-requires
-fixed-at-requires c κs = search needs
-
-longitude-at-requires : tie.Need-longitude-at-requires
-longitude-at-requires c κs = search needs
-
-bounded-requires : tie.Need-bounded-requires
-bounded-requires c κs = search needs
-
 returns : tie.Need-returns
 returns c = search (east, needs)
 
 pub read-east-spec : {M : Type 1} → statement M
-read-east-spec = tie.close (tie.spec fixed-at-requires longitude-at-requires bounded-requires returns)
+read-east-spec = tie.close (tie.spec (λ c κs. search needs) (λ c κs. search needs) (λ c κs. search needs) returns)

@@ -9,9 +9,6 @@ use Rattle.reader_sections.proofs.Sides.{fixed-there, entire-cta, entir
 use Rattle.reader_sections.proofs.location.read_entire.Statement.{statement}
 use Rattle.reader_sections.proofs.location.read_entire.Tie as tie
 
-fixed-at-requires : tie.Need-fixed-at-requires
-fixed-at-requires c κs = search needs
-
 returns : tie.Need-returns
 unfolding placeStep
 returns c =
@@ -22,4 +19,4 @@ returns c =
     record { says = λ site q n. fixed-there (c .fixed-at .ensures) word site atEntire n entirely (λ z. rw q); stands = search needs }
 
 pub read-entire-spec : {M : Type 1} → statement M
-read-entire-spec = tie.close (tie.spec fixed-at-requires returns)
+read-entire-spec = tie.close (tie.spec (λ c κs. search needs) returns)

@@ -4,19 +4,19 @@ use mathlib.Core.Bool.{false}
 use mathlib.Core.List.{List, []}
 use mathlib.Core.Path.{_≡_}
 use Prim.Native.Nat.{ℕ, _<_}
-use Rattle.reader_sections.specs.declared.steps.Step.{Step}
+use lib.Dec.{eqb, lit<}
 use Rattle.lists.specs.Lists.{part}
 use Rattle.figures.specs.Codes.{codeOf}
-use lib.Dec.{eqb, lit<}
+use Rattle.vocabulary.proofs.FixedWords.{fixed-entire, fixed-wi}
 use Rattle.coordinates.specs.Coordinates.{Axis, northSouth, eastWest}
-use Rattle.message.specs.Locations.{noSide}
 use Rattle.message.specs.declared.Extent.{Extent}
+use Rattle.message.specs.Locations.{noSide}
 use Rattle.grammar.specs.Placing.{sideWord, locating, placeStep}
 use Rattle.grammar.specs.States.Placing.{atLocation, atLatitudeOf, atLongitudeOf, atEntire, atLatitude}
 use Rattle.grammar.specs.States.State.{atPlace}
-use Rattle.vocabulary.proofs.FixedWords.{fixed-entire, fixed-wi}
-use Rattle.reader_sections.specs.Steps.{wordFrom, Stands, Before, Judged}
+use Rattle.reader_sections.specs.declared.steps.Step.{Step}
 use Rattle.reader_sections.specs.Locations.{SideSays, LocatedSays, LocatedInSays}
+use Rattle.reader_sections.specs.Steps.{wordFrom, Stands, Before, Judged}
 use Rattle.reader_sections.proofs.Leads.{then, goes-code, code-going, code-yes, code-no, takes-fixed}
 use Rattle.reader_sections.proofs.Sides.{on-step, fixed-on, side-going, side-no, side-on}
 use Rattle.reader_sections.proofs.location.read_location.Statement.{statement}
@@ -71,50 +71,21 @@ module _ {t : List ℕ} {from past to : Step} {closing refusal code n : ℕ} {x 
       stands = rest .stands;
     }
 
-code-of-requires : tie.Need-code-of-requires
-code-of-requires c κs = search needs
-
-side-letter-requires : tie.Need-side-letter-requires
-side-letter-requires c κs = search needs
-
-step-at-requires : tie.Need-step-at-requires
-step-at-requires c κs = search needs
-
-read-north-requires : tie.Need-read-north-requires
-read-north-requires c κs = search needs
-
 returns : tie.Need-returns
 returns c = search (of-latitude, needs)
-
-side-letter-requires-2 : tie.Need-side-letter-requires-2
-side-letter-requires-2 c κs = search needs
-
-step-at-requires-2 : tie.Need-step-at-requires-2
-step-at-requires-2 c κs = search needs
-
-read-east-requires : tie.Need-read-east-requires
-read-east-requires c κs = search needs
 
 returns-2 : tie.Need-returns-2
 returns-2 c = search (of-longitude, needs)
 
-step-at-requires-3 : tie.Need-step-at-requires-3
-step-at-requires-3 c κs = search needs
-
-read-entire-requires : tie.Need-read-entire-requires
-read-entire-requires c κs = search needs
-
 returns-3 : tie.Need-returns-3
 returns-3 c = search (entire, needs)
-
-judged-requires : tie.Need-judged-requires
-judged-requires c κs = search needs
-
-read-outline-requires : tie.Need-read-outline-requires
-read-outline-requires c κs = search needs
 
 returns-4 : tie.Need-returns-4
 returns-4 c = search (outline, needs)
 
 pub read-location-spec : {M : Type 1} → statement M
-read-location-spec = tie.close (tie.spec code-of-requires side-letter-requires step-at-requires read-north-requires returns side-letter-requires-2 step-at-requires-2 read-east-requires returns-2 step-at-requires-3 read-entire-requires returns-3 judged-requires read-outline-requires returns-4)
+read-location-spec =
+    tie.close
+    (tie.spec (λ c κs. search needs) (λ c κs. search needs) (λ c κs. search needs) (λ c κs. search needs) returns
+    (λ c κs. search needs) (λ c κs. search needs) (λ c κs. search needs) returns-2 (λ c κs. search needs)
+    (λ c κs. search needs) returns-3 (λ c κs. search needs) (λ c κs. search needs) returns-4)

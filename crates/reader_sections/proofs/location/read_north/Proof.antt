@@ -2,13 +2,13 @@
 use borrow.Author.Needs.{needs}
 use mathlib.Core.List.{List}
 use Prim.Native.Nat.{ℕ}
-use Rattle.reader_sections.specs.declared.steps.Step.{Step}
-use Rattle.coordinates.specs.Coordinates.{northSouth, coordinateOf, goodCoordinate}
 use Rattle.coordinates.specs.declared.Coordinate.{Coordinate}
+use Rattle.coordinates.specs.Coordinates.{northSouth, coordinateOf, goodCoordinate}
 use Rattle.message.specs.declared.Extent.{Extent}
 use Rattle.grammar.specs.States.Placing.{atLatitudeOf, atAnd}
-use Rattle.reader_sections.specs.Steps.{Takes, TakesFixed}
+use Rattle.reader_sections.specs.declared.steps.Step.{Step}
 use Rattle.reader_sections.specs.Locations.{LocatedSays}
+use Rattle.reader_sections.specs.Steps.{Takes, TakesFixed}
 use Rattle.reader_sections.proofs.Leads.{then}
 use Rattle.reader_sections.proofs.Sides.{latitude-bound}
 use Rattle.reader_sections.proofs.location.read_north.Statement.{statement}
@@ -19,17 +19,8 @@ north : {t : List ℕ} {from a b to : Step} {refusal side : ℕ} {v : Coordinate
     → LocatedSays (atLatitudeOf side) refusal t from to x
 north of latitude rest = record { says = λ site n. then (latitude-bound of site n latitude _) (rest .says site n); stands = rest .stands }
 
-fixed-at-requires : tie.Need-fixed-at-requires
-fixed-at-requires c κs = search needs
-
-latitude-at-requires : tie.Need-latitude-at-requires
-latitude-at-requires c κs = search needs
-
-read-after-north-requires : tie.Need-read-after-north-requires
-read-after-north-requires c κs = search needs
-
 returns : tie.Need-returns
 returns c = search (north, needs)
 
 pub read-north-spec : {M : Type 1} → statement M
-read-north-spec = tie.close (tie.spec fixed-at-requires latitude-at-requires read-after-north-requires returns)
+read-north-spec = tie.close (tie.spec (λ c κs. search needs) (λ c κs. search needs) (λ c κs. search needs) returns)

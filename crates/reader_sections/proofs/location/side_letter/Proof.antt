@@ -4,14 +4,8 @@ use Rattle.reader_sections.proofs.Sides.{side-plus, side-minus, side-ne
 use Rattle.reader_sections.proofs.location.side_letter.Statement.{statement}
 use Rattle.reader_sections.proofs.location.side_letter.Tie as tie
 
-add-if1 : tie.Need-add-if1
-add-if1 c = search needs
-
 returns : tie.Need-returns
 returns c = side-plus _ _ (search needs) (search needs) (c .if1 .taken)
-
-add-if2 : tie.Need-add-if2
-add-if2 c = search needs
 
 returns-2 : tie.Need-returns-2
 returns-2 c = side-minus _ _ (search needs) (search needs) (c .if2 .taken)
@@ -20,4 +14,4 @@ returns-3 : tie.Need-returns-3
 returns-3 c = side-neither _ _ (search needs) (search needs) (c .before .if1 .left) (c .if2 .left)
 
 pub side-letter-spec : {M : Type 1} → statement M
-side-letter-spec = tie.close (tie.spec add-if1 returns add-if2 returns-2 returns-3)
+side-letter-spec = tie.close (tie.spec (search needs) returns (search needs) returns-2 returns-3)

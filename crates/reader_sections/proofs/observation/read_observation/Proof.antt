@@ -4,13 +4,13 @@ use mathlib.Core.List.{List}
 use mathlib.Core.Path.{_≡_, refl}
 use Prim.Native.Nat.{ℕ}
 use lib.Dec.{eqb}
+use Rattle.vocabulary.proofs.FixedWords.{fixed-obs, fixed-fcst}
 use Rattle.message.specs.declared.Observation.{Observation}
 use Rattle.grammar.specs.States.State.{atObservation, atObserved}
 use Rattle.grammar.specs.Steps.{step}
-use Rattle.vocabulary.proofs.FixedWords.{fixed-obs, fixed-fcst}
+use Rattle.reader_sections.specs.declared.steps.Step.{Step}
 use Rattle.reader_sections.specs.Reports.{ObservedSays, ObservationSays}
 use Rattle.reader_sections.specs.Steps.{Stands, Before, Judged}
-use Rattle.reader_sections.specs.declared.steps.Step.{Step}
 use Rattle.reader_sections.proofs.FormLaws.{codeAt, takes-code}
 use Rattle.reader_sections.proofs.Leads.{then, code-no, takes-fixed}
 use Rattle.reader_sections.proofs.observation.read_observation.Statement.{statement}
@@ -28,23 +28,8 @@ module _ {t : List ℕ} {from a to : Step} {code : ℕ} {o : Observation} (f : S
     stands = rest .stands;
   }
 
-code-of-requires : tie.Need-code-of-requires
-code-of-requires c κs = search needs
-
-step-at-requires : tie.Need-step-at-requires
-step-at-requires c κs = search needs
-
-read-observed-requires : tie.Need-read-observed-requires
-read-observed-requires c κs = search needs
-
 returns : tie.Need-returns
 returns c = search obs
-
-judged-requires : tie.Need-judged-requires
-judged-requires c κs = search needs
-
-read-observed-requires-2 : tie.Need-read-observed-requires-2
-read-observed-requires-2 c κs = search needs
 
 returns-2 : tie.Need-returns-2
 returns-2 c = search fcst
@@ -52,11 +37,5 @@ returns-2 c = search fcst
 pub read-observation-spec : {M : Type 1} → statement M
 read-observation-spec =
     tie.close
-    (tie.spec
-    code-of-requires
-    step-at-requires
-    read-observed-requires
-    returns
-    judged-requires
-    read-observed-requires-2
-    returns-2)
+    (tie.spec (λ c κs. search needs) (λ c κs. search needs) (λ c κs. search needs) returns (λ c κs. search needs)
+    (λ c κs. search needs) returns-2)

@@ -5,17 +5,17 @@ use mathlib.Core.List.{List}
 use mathlib.Core.Path.{_≡_, refl}
 use Prim.Native.Nat.{ℕ}
 use borrow.Author.Tests.{not-true, not-false}
-use Rattle.groups.specs.Groups.{timeOf, goodTime}
+use Rattle.vocabulary.proofs.FixedWords.{fixed-at}
 use Rattle.groups.specs.declared.Time.{Time}
+use Rattle.groups.specs.Groups.{timeOf, goodTime}
 use Rattle.grammar.specs.Records.{untimed, timedAt}
 use Rattle.grammar.specs.States.Placing.{atLocation}
 use Rattle.grammar.specs.States.Site.{inReport}
 use Rattle.grammar.specs.States.State.{atObserved, atObservedTime, atPlace}
 use Rattle.grammar.specs.Steps.{step}
-use Rattle.vocabulary.proofs.FixedWords.{fixed-at}
+use Rattle.reader_sections.specs.declared.steps.Step.{Step}
 use Rattle.reader_sections.specs.Reports.{ObservedSays}
 use Rattle.reader_sections.specs.Steps.{Takes, MayTake}
-use Rattle.reader_sections.specs.declared.steps.Step.{Step}
 use Rattle.reader_sections.proofs.Leads.{then}
 use Rattle.reader_sections.proofs.observation.read_observed.Statement.{statement}
 use Rattle.reader_sections.proofs.observation.read_observed.Tie as tie
@@ -33,17 +33,11 @@ module _ {t : List ℕ} {from a : Step} {found : Bool} {word : ℕ} (at : MayTak
     stands = time .stands;
   }
 
-perhaps-at-requires : tie.Need-perhaps-at-requires
-perhaps-at-requires c κs = search needs
-
 returns : tie.Need-returns
 returns c = search (untimed-says, not-true)
-
-time-at-requires : tie.Need-time-at-requires
-time-at-requires c κs = search needs
 
 returns-2 : tie.Need-returns-2
 returns-2 c = search (timed-says, not-false)
 
 pub read-observed-spec : {M : Type 1} → statement M
-read-observed-spec = tie.close (tie.spec perhaps-at-requires returns time-at-requires returns-2)
+read-observed-spec = tie.close (tie.spec (λ c κs. search needs) returns (λ c κs. search needs) returns-2)

@@ -7,11 +7,8 @@ use Rattle.reader_sections.proofs.outline.closes.Tie as tie
 returns : tie.Need-returns
 returns c = search (none-closes, needs)
 
-same-point-requires : tie.Need-same-point-requires
-same-point-requires c κs = search needs
-
 returns-2 : tie.Need-returns-2
 returns-2 c = rw (c .same-point .ensures) (search (same-closes, needs))
 
 pub closes-spec : {M : Type 1} → statement M
-closes-spec = tie.close (tie.spec returns same-point-requires returns-2)
+closes-spec = tie.close (tie.spec returns (λ c κs. search needs) returns-2)

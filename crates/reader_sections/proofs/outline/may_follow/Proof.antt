@@ -7,17 +7,8 @@ use Rattle.reader_sections.proofs.outline.may_follow.Tie as tie
 returns : tie.Need-returns
 returns c = search (first-follows, needs)
 
-add-either : tie.Need-add-either
-add-either c = search needs
-
-same-latitude-requires : tie.Need-same-latitude-requires
-same-latitude-requires c κs = search needs
-
-either-requires : tie.Need-either-requires
-either-requires c κs = search needs
-
 returns-2 : tie.Need-returns-2
 returns-2 c = rw (c .either .ensures, c .before .same-latitude .ensures) (search (next-follows, needs))
 
 pub may-follow-spec : {M : Type 1} → statement M
-may-follow-spec = tie.close (tie.spec returns add-either same-latitude-requires either-requires returns-2)
+may-follow-spec = tie.close (tie.spec returns (search needs) (λ c κs. search needs) (λ c κs. search needs) returns-2)

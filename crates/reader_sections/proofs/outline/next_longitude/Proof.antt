@@ -9,33 +9,6 @@ use Rattle.reader_sections.proofs.OutlineLaws.{longitude-says}
 use Rattle.reader_sections.proofs.outline.next_longitude.Statement.{statement}
 use Rattle.reader_sections.proofs.outline.next_longitude.Tie as tie
 
-sub-longitude : tie.Need-sub-longitude
-sub-longitude c = search needs
-
-part-longitude-start : tie.Need-part-longitude-start
-part-longitude-start c = search needs
-
-part-longitude-end : tie.Need-part-longitude-end
-part-longitude-end c = search needs
-
-longitude-requires : tie.Need-longitude-requires
-longitude-requires c κs = search needs
-
-closes-requires : tie.Need-closes-requires
-closes-requires c κs = search needs
-
-add-fits : tie.Need-add-fits
-add-fits c = search needs
-
-add-fits-2 : tie.Need-add-fits-2
-add-fits-2 c = search needs
-
-both-requires : tie.Need-both-requires
-both-requires c κs = search needs
-
-judged-requires : tie.Need-judged-requires
-judged-requires c κs = search needs
-
 -- the one test or the other
 fits-is : (c : tie.Joined1) → c .if1 .fits
     ≡ pick (c .before .closes .result) (leb 4 (c .before .before .before .before .before .args .count + 1)) (ltb (c .before .before .before .before .before .args .count + 1) 7)
@@ -47,14 +20,5 @@ returns c = longitude-says (search needs) (search needs) (search needs) (fits-is
 pub next-longitude-spec : {M : Type 1} → statement M
 next-longitude-spec =
     tie.close
-    (tie.spec
-    sub-longitude
-    part-longitude-start
-    part-longitude-end
-    longitude-requires
-    closes-requires
-    add-fits
-    add-fits-2
-    both-requires
-    judged-requires
-    returns)
+    (tie.spec (search needs) (search needs) (search needs) (λ c κs. search needs) (λ c κs. search needs) (search needs)
+    (search needs) (λ c κs. search needs) (λ c κs. search needs) returns)

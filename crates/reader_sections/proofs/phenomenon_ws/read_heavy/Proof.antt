@@ -4,12 +4,12 @@ use mathlib.Core.List.{List}
 use mathlib.Core.Path.{_≡_, refl}
 use Prim.Native.Nat.{ℕ}
 use lib.Dec.{eqb}
+use Rattle.vocabulary.proofs.FixedWords.{fixed-ds, fixed-ss}
 use Rattle.grammar.specs.States.State.{atHeavy}
 use Rattle.grammar.specs.Steps.{step}
-use Rattle.vocabulary.proofs.FixedWords.{fixed-ds, fixed-ss}
+use Rattle.reader_sections.specs.declared.steps.Step.{Step}
 use Rattle.reader_sections.specs.Phenomena.{WeatherFrom}
 use Rattle.reader_sections.specs.Steps.{Stands, Before, Judged}
-use Rattle.reader_sections.specs.declared.steps.Step.{Step}
 use Rattle.reader_sections.proofs.FormLaws.{codeAt, takes-code}
 use Rattle.reader_sections.proofs.Leads.{code-no, takes-fixed}
 use Rattle.reader_sections.proofs.phenomenon_ws.read_heavy.Statement.{statement}
@@ -24,21 +24,13 @@ module _ {t : List ℕ} {from to : Step} {code : ℕ} (f : Stands t from) (e : c
   unfolding step
   hvy-ss n j = record { says = λ o. takes-fixed f e j .says _ fixed-ss (atHeavy o) _ (λ z. rw (code-no f e z fixed-ds n)) refl; stands = j .stands }
 
-code-of-requires : tie.Need-code-of-requires
-code-of-requires c κs = search needs
-
-step-at-requires : tie.Need-step-at-requires
-step-at-requires c κs = search needs
-
 returns : tie.Need-returns
 returns c = search hvy-ds
-
-judged-requires : tie.Need-judged-requires
-judged-requires c κs = search needs
 
 returns-2 : tie.Need-returns-2
 returns-2 c = search hvy-ss
 
 pub read-heavy-spec : {M : Type 1} → statement M
 read-heavy-spec =
-    tie.close (tie.spec code-of-requires step-at-requires returns judged-requires returns-2)
+    tie.close
+    (tie.spec (λ c κs. search needs) (λ c κs. search needs) returns (λ c κs. search needs) returns-2)

@@ -6,13 +6,13 @@ use mathlib.Core.Path.{_≡_, refl}
 use Prim.Native.Nat.{ℕ}
 use native.Mathlib.Omega.{arith}
 use lib.Dec.{eqb}
+use Rattle.vocabulary.proofs.FixedWords.{fixed-turb, fixed-mtw, fixed-ice, fixed-freezing-rain}
 use Rattle.grammar.specs.States.State.{atSevere, atIce}
 use Rattle.grammar.specs.States.{ToArea}
 use Rattle.grammar.specs.Steps.{step}
-use Rattle.vocabulary.proofs.FixedWords.{fixed-turb, fixed-mtw, fixed-ice, fixed-freezing-rain}
+use Rattle.reader_sections.specs.declared.steps.Step.{Step}
 use Rattle.reader_sections.specs.Phenomena.{WeatherFrom}
 use Rattle.reader_sections.specs.Steps.{Stands, Before, Judged, MayTake, Leads}
-use Rattle.reader_sections.specs.declared.steps.Step.{Step}
 use Rattle.reader_sections.proofs.FormLaws.{codeAt, takes-code}
 use Rattle.reader_sections.proofs.Leads.{then, code-no, takes-fixed}
 use Rattle.reader_sections.proofs.phenomenon_ws.read_severe.Statement.{statement}
@@ -44,26 +44,11 @@ module _ {t : List ℕ} {from to : Step} {code : ℕ} (f : Stands t from) (e : c
       unfolding step
       sev-ice n = record { says = λ o. then (on-ice o) (rain .without n _ fixed-freezing-rain (atIce o) _ (λ z i. rw i) refl); stands = rain .stands }
 
-code-of-requires : tie.Need-code-of-requires
-code-of-requires c κs = search needs
-
-step-at-requires : tie.Need-step-at-requires
-step-at-requires c κs = search needs
-
 returns : tie.Need-returns
 returns c = search sev-turb
 
-step-at-requires-2 : tie.Need-step-at-requires-2
-step-at-requires-2 c κs = search needs
-
 returns-2 : tie.Need-returns-2
 returns-2 c = search sev-mtw
-
-judged-requires : tie.Need-judged-requires
-judged-requires c κs = search needs
-
-perhaps-at-requires : tie.Need-perhaps-at-requires
-perhaps-at-requires c κs = search needs
 
 returns-3 : tie.Need-returns-3
 returns-3 c = search sev-ice-fzra
@@ -74,13 +59,5 @@ returns-4 c = search sev-ice
 pub read-severe-spec : {M : Type 1} → statement M
 read-severe-spec =
     tie.close
-    (tie.spec
-    code-of-requires
-    step-at-requires
-    returns
-    step-at-requires-2
-    returns-2
-    judged-requires
-    perhaps-at-requires
-    returns-3
-    returns-4)
+    (tie.spec (λ c κs. search needs) (λ c κs. search needs) returns (λ c κs. search needs) returns-2
+    (λ c κs. search needs) (λ c κs. search needs) returns-3 returns-4)

@@ -7,12 +7,12 @@ use lib.Dec.{eqb}
 use Rattle.lists.specs.Base.{worthAfter}
 use Rattle.lists.specs.Lists.{allOf, indexOf}
 use Rattle.figures.specs.Codes.{codeOf}
+use Rattle.vocabulary.proofs.FixedWords.{fixed-sev, fixed-hvy, fixed-rdoact}
 use Rattle.grammar.specs.States.State.{atForm, atStorm, atSevere, atHeavy, atRadioactive}
 use Rattle.grammar.specs.Steps.{stormWords}
-use Rattle.vocabulary.proofs.FixedWords.{fixed-sev, fixed-hvy, fixed-rdoact}
+use Rattle.reader_sections.specs.declared.steps.Step.{Step}
 use Rattle.reader_sections.specs.Phenomena.{WeatherFrom, WeatherSays}
 use Rattle.reader_sections.specs.Steps.{Stands, Before, Judged}
-use Rattle.reader_sections.specs.declared.steps.Step.{Step}
 use Rattle.reader_sections.proofs.FormLaws.{codeAt, takes-code}
 use Rattle.reader_sections.proofs.Leads.{then, code-no, takes-fixed}
 use Rattle.reader_sections.proofs.Storms.{goes-storm, no-storm}
@@ -55,53 +55,14 @@ module _ {t : List ℕ} {from a to : Step} {code n phenomenon : ℕ} (f : Stands
         stands = rest .stands;
       }
 
-code-of-requires : tie.Need-code-of-requires
-code-of-requires c κs = search needs
-
-slice-aggregate-find : tie.Need-slice-aggregate-find
-slice-aggregate-find c = search needs
-
-find-requires : tie.Need-find-requires
-find-requires c κs = search needs
-
-step-at-requires : tie.Need-step-at-requires
-step-at-requires c κs = search needs
-
-add-read-storm : tie.Need-add-read-storm
-add-read-storm c = search needs
-
-cast-read-storm : tie.Need-cast-read-storm
-cast-read-storm c = search needs
-
-read-storm-requires : tie.Need-read-storm-requires
-read-storm-requires c κs = search needs
-
 returns : tie.Need-returns
 returns c = search storm-first
-
-step-at-requires-2 : tie.Need-step-at-requires-2
-step-at-requires-2 c κs = search needs
-
-read-severe-requires : tie.Need-read-severe-requires
-read-severe-requires c κs = search needs
 
 returns-2 : tie.Need-returns-2
 returns-2 c = search sev-first
 
-step-at-requires-3 : tie.Need-step-at-requires-3
-step-at-requires-3 c κs = search needs
-
-read-heavy-requires : tie.Need-read-heavy-requires
-read-heavy-requires c κs = search needs
-
 returns-3 : tie.Need-returns-3
 returns-3 c = search hvy-first
-
-judged-requires : tie.Need-judged-requires
-judged-requires c κs = search needs
-
-read-radioactive-requires : tie.Need-read-radioactive-requires
-read-radioactive-requires c κs = search needs
 
 returns-4 : tie.Need-returns-4
 returns-4 c = search rdoact-first
@@ -109,21 +70,6 @@ returns-4 c = search rdoact-first
 pub read-weather-spec : {M : Type 1} → statement M
 read-weather-spec =
     tie.close
-    (tie.spec
-    code-of-requires
-    slice-aggregate-find
-    find-requires
-    step-at-requires
-    add-read-storm
-    cast-read-storm
-    read-storm-requires
-    returns
-    step-at-requires-2
-    read-severe-requires
-    returns-2
-    step-at-requires-3
-    read-heavy-requires
-    returns-3
-    judged-requires
-    read-radioactive-requires
-    returns-4)
+    (tie.spec (λ c κs. search needs) (search needs) (λ c κs. search needs) (λ c κs. search needs) (search needs)
+    (search needs) (λ c κs. search needs) returns (λ c κs. search needs) (λ c κs. search needs) returns-2
+    (λ c κs. search needs) (λ c κs. search needs) returns-3 (λ c κs. search needs) (λ c κs. search needs) returns-4)

@@ -5,14 +5,14 @@ use mathlib.Core.List.{List}
 use mathlib.Core.Path.{_≡_, refl}
 use Prim.Native.Nat.{ℕ}
 use Rattle.lists.specs.Text.{bytes}
-use Rattle.message.specs.Reports.{noVolcano}
+use Rattle.vocabulary.proofs.FixedWords.{fixed-va, fixed-cld}
 use Rattle.message.specs.declared.Volcano.{Volcano}
+use Rattle.message.specs.Reports.{noVolcano}
 use Rattle.grammar.specs.States.State.{atForm, atAsh, atEruption}
 use Rattle.grammar.specs.Steps.{step}
-use Rattle.vocabulary.proofs.FixedWords.{fixed-va, fixed-cld}
+use Rattle.reader_sections.specs.declared.steps.Step.{Step}
 use Rattle.reader_sections.specs.Phenomena.{EruptionSays, AshSays}
 use Rattle.reader_sections.specs.Steps.{TakesFixed, TakesLong, MayTake}
-use Rattle.reader_sections.specs.declared.steps.Step.{Step}
 use Rattle.reader_sections.proofs.Leads.{then}
 use Rattle.reader_sections.proofs.phenomenon_wv.read_ash.Statement.{statement}
 use Rattle.reader_sections.proofs.phenomenon_wv.read_ash.Tie as tie
@@ -35,23 +35,8 @@ module _ {t : List ℕ} {from a b : Step} {found : Bool} (va : TakesFixed 0x0156
     stands = rest .stands;
   }
 
-fixed-at-requires : tie.Need-fixed-at-requires
-fixed-at-requires c κs = search needs
-
-perhaps-at-requires : tie.Need-perhaps-at-requires
-perhaps-at-requires c κs = search needs
-
 returns : tie.Need-returns
 returns c = search va-cld
-
-slice-aggregate-long-at : tie.Need-slice-aggregate-long-at
-slice-aggregate-long-at c = search needs
-
-long-at-requires : tie.Need-long-at-requires
-long-at-requires c κs = search needs
-
-read-eruption-requires : tie.Need-read-eruption-requires
-read-eruption-requires c κs = search needs
 
 returns-2 : tie.Need-returns-2
 returns-2 c = search va-eruption
@@ -59,11 +44,5 @@ returns-2 c = search va-eruption
 pub read-ash-spec : {M : Type 1} → statement M
 read-ash-spec =
     tie.close
-    (tie.spec
-    fixed-at-requires
-    perhaps-at-requires
-    returns
-    slice-aggregate-long-at
-    long-at-requires
-    read-eruption-requires
-    returns-2)
+    (tie.spec (λ c κs. search needs) (λ c κs. search needs) returns (search needs) (λ c κs. search needs)
+    (λ c κs. search needs) returns-2)

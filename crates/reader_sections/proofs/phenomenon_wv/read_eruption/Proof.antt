@@ -3,15 +3,15 @@ use borrow.Author.Needs.{needs}
 use mathlib.Core.List.{List}
 use mathlib.Core.Path.{refl}
 use Prim.Native.Nat.{ℕ}
-use Rattle.coordinates.specs.Coordinates.{northSouth, eastWest, coordinateOf, goodCoordinate}
+use Rattle.vocabulary.proofs.FixedWords.{fixed-va, fixed-cld}
 use Rattle.coordinates.specs.declared.Coordinate.{Coordinate}
+use Rattle.coordinates.specs.Coordinates.{northSouth, eastWest, coordinateOf, goodCoordinate}
 use Rattle.message.specs.declared.Name.{Name}
 use Rattle.grammar.specs.States.State.{atPosition, atPositionLongitude, atVolcanoAsh, atVolcanoCloud}
 use Rattle.grammar.specs.Steps.{step}
-use Rattle.vocabulary.proofs.FixedWords.{fixed-va, fixed-cld}
+use Rattle.reader_sections.specs.declared.steps.Step.{Step}
 use Rattle.reader_sections.specs.Phenomena.{MountainSays, EruptionSays}
 use Rattle.reader_sections.specs.Steps.{Takes, TakesFixed}
-use Rattle.reader_sections.specs.declared.steps.Step.{Step}
 use Rattle.reader_sections.proofs.Leads.{then}
 use Rattle.reader_sections.proofs.phenomenon_wv.read_eruption.Statement.{statement}
 use Rattle.reader_sections.proofs.phenomenon_wv.read_eruption.Tie as tie
@@ -31,31 +31,11 @@ erupted {name = name} {north} mountain latitude longitude va cld = record {
   stands = cld .stands;
 }
 
-read-mountain-requires : tie.Need-read-mountain-requires
-read-mountain-requires c κs = search needs
-
-latitude-at-requires : tie.Need-latitude-at-requires
-latitude-at-requires c κs = search needs
-
-longitude-at-requires : tie.Need-longitude-at-requires
-longitude-at-requires c κs = search needs
-
-fixed-at-requires : tie.Need-fixed-at-requires
-fixed-at-requires c κs = search needs
-
-fixed-at-requires-2 : tie.Need-fixed-at-requires-2
-fixed-at-requires-2 c κs = search needs
-
 returns : tie.Need-returns
 returns c = search erupted
 
 pub read-eruption-spec : {M : Type 1} → statement M
 read-eruption-spec =
     tie.close
-    (tie.spec
-    read-mountain-requires
-    latitude-at-requires
-    longitude-at-requires
-    fixed-at-requires
-    fixed-at-requires-2
-    returns)
+    (tie.spec (λ c κs. search needs) (λ c κs. search needs) (λ c κs. search needs) (λ c κs. search needs)
+    (λ c κs. search needs) returns)

@@ -5,15 +5,15 @@ use mathlib.Core.List.{List}
 use mathlib.Core.Path.{_≡_, refl}
 use Prim.Native.Nat.{ℕ}
 use borrow.Author.Tests.{not-true, not-false}
-use Rattle.message.specs.Names.{noName}
+use Rattle.vocabulary.proofs.FixedWords.{fixed-mt, fixed-psn}
 use Rattle.message.specs.declared.Name.{Name}
+use Rattle.message.specs.Names.{noName}
 use Rattle.grammar.specs.States.State.{atEruption, atMountain, atMoreMountain, atPosition}
 use Rattle.grammar.specs.Steps.{step}
-use Rattle.vocabulary.proofs.FixedWords.{fixed-mt, fixed-psn}
+use Rattle.reader_sections.specs.declared.steps.Step.{Step}
 use Rattle.reader_sections.specs.Naming.{NameSays}
 use Rattle.reader_sections.specs.Phenomena.{MountainSays}
 use Rattle.reader_sections.specs.Steps.{TakesFixed, MayTake}
-use Rattle.reader_sections.specs.declared.steps.Step.{Step}
 use Rattle.reader_sections.proofs.Leads.{then}
 use Rattle.reader_sections.proofs.NameText.{mountainClosed, mountain-takes, name-closed}
 use Rattle.reader_sections.proofs.phenomenon_wv.read_mountain.Statement.{statement}
@@ -37,20 +37,8 @@ module _ {t : List ℕ} {from a to : Step} {found : Bool} (mt : MayTake 0x014d54
     stands = psn .stands;
   }
 
-perhaps-at-requires : tie.Need-perhaps-at-requires
-perhaps-at-requires c κs = search needs
-
-fixed-at-requires : tie.Need-fixed-at-requires
-fixed-at-requires c κs = search needs
-
 returns : tie.Need-returns
 returns c = search (psn-alone, not-true)
-
-read-name-requires : tie.Need-read-name-requires
-read-name-requires c κs = search needs
-
-fixed-at-requires-2 : tie.Need-fixed-at-requires-2
-fixed-at-requires-2 c κs = search needs
 
 returns-2 : tie.Need-returns-2
 returns-2 c = search (mt-name-psn, not-false)
@@ -58,10 +46,5 @@ returns-2 c = search (mt-name-psn, not-false)
 pub read-mountain-spec : {M : Type 1} → statement M
 read-mountain-spec =
     tie.close
-    (tie.spec
-    perhaps-at-requires
-    fixed-at-requires
-    returns
-    read-name-requires
-    fixed-at-requires-2
+    (tie.spec (λ c κs. search needs) (λ c κs. search needs) returns (λ c κs. search needs) (λ c κs. search needs)
     returns-2)

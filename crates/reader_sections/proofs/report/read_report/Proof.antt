@@ -3,7 +3,6 @@ use borrow.Author.Needs.{needs}
 use mathlib.Core.List.{List}
 use mathlib.Core.Path.{refl}
 use Prim.Native.Nat.{ℕ}
-use Rattle.reader_sections.specs.declared.steps.Step.{Step}
 use Rattle.groups.specs.declared.Time.{Time}
 use Rattle.levels.specs.declared.Level.{Level}
 use Rattle.message.specs.declared.Ending.{Ending}
@@ -12,10 +11,11 @@ use Rattle.message.specs.declared.Observation.{Observation}
 use Rattle.message.specs.declared.Volcano.{Volcano}
 use Rattle.grammar.specs.States.Placing.{atLocation}
 use Rattle.grammar.specs.States.Site.{inReport}
+use Rattle.reader_sections.specs.declared.steps.Step.{Step}
 use Rattle.reader_sections.specs.Endings.{EndingSays}
-use Rattle.reader_sections.specs.Steps.{Closes}
 use Rattle.reader_sections.specs.Locations.{LocatedInSays}
 use Rattle.reader_sections.specs.Reports.{PhenomenonSays, ObservationSays, LevelSays, ReportSays}
+use Rattle.reader_sections.specs.Steps.{Closes}
 use Rattle.reader_sections.proofs.Leads.{then, at-last}
 use Rattle.reader_sections.proofs.report.read_report.Statement.{statement}
 use Rattle.reader_sections.proofs.report.read_report.Tie as tie
@@ -29,26 +29,11 @@ report phenomenon observation location level ending equals = record {
       (equals .says _ _ (ending .stands));
 }
 
-read-phenomenon-requires : tie.Need-read-phenomenon-requires
-read-phenomenon-requires c κs = search needs
-
-read-observation-requires : tie.Need-read-observation-requires
-read-observation-requires c κs = search needs
-
-read-location-requires : tie.Need-read-location-requires
-read-location-requires c κs = search needs
-
-read-level-requires : tie.Need-read-level-requires
-read-level-requires c κs = search needs
-
-read-ending-requires : tie.Need-read-ending-requires
-read-ending-requires c κs = search needs
-
-concluding-requires : tie.Need-concluding-requires
-concluding-requires c κs = search needs
-
 returns : tie.Need-returns
 returns c = search report
 
 pub read-report-spec : {M : Type 1} → statement M
-read-report-spec = tie.close (tie.spec read-phenomenon-requires read-observation-requires read-location-requires read-level-requires read-ending-requires concluding-requires returns)
+read-report-spec =
+    tie.close
+    (tie.spec (λ c κs. search needs) (λ c κs. search needs) (λ c κs. search needs) (λ c κs. search needs)
+    (λ c κs. search needs) (λ c κs. search needs) returns)

@@ -1,6 +1,6 @@
 -- `concluding` meets its contract. Assumes nothing.
-use Rattle.reader_sections.proofs.OneWord.{end-yes, end-no}
 use Rattle.reader_sections.proofs.Leads.{standing, closes-stays, closes-going}
+use Rattle.reader_sections.proofs.OneWord.{end-yes, end-no}
 use Rattle.reader_sections.proofs.steps.concluding.Statement.{statement}
 use Rattle.reader_sections.proofs.steps.concluding.Tie as tie
 

@@ -4,9 +4,6 @@ use Rattle.reader_sections.proofs.Leads.{judged-good-word, judged-stays
 use Rattle.reader_sections.proofs.steps.judged.Statement.{statement}
 use Rattle.reader_sections.proofs.steps.judged.Tie as tie
 
-step-at-requires : tie.Need-step-at-requires
-step-at-requires c κs = search needs
-
 returns : tie.Need-returns
 returns c = search (judged-good-word, needs)
 
@@ -17,4 +14,4 @@ returns-3 : tie.Need-returns-3
 returns-3 c = search (judged-bad, needs)
 
 pub judged-spec : {M : Type 1} → statement M
-judged-spec = tie.close (tie.spec step-at-requires returns returns-2 returns-3)
+judged-spec = tie.close (tie.spec (λ c κs. search needs) returns returns-2 returns-3)

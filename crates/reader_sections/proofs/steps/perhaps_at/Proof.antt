@@ -4,12 +4,6 @@ use Rattle.reader_sections.proofs.Leads.{may-yes, may-no}
 use Rattle.reader_sections.proofs.steps.perhaps_at.Statement.{statement}
 use Rattle.reader_sections.proofs.steps.perhaps_at.Tie as tie
 
-code-of-requires : tie.Need-code-of-requires
-code-of-requires c κs = search needs
-
-step-at-requires : tie.Need-step-at-requires
-step-at-requires c κs = search needs
-
 returns : tie.Need-returns
 returns c = search (may-yes, needs)
 
@@ -17,4 +11,4 @@ returns-2 : tie.Need-returns-2
 returns-2 c = search (may-no, needs)
 
 pub perhaps-at-spec : {M : Type 1} → statement M
-perhaps-at-spec = tie.close (tie.spec code-of-requires step-at-requires returns returns-2)
+perhaps-at-spec = tie.close (tie.spec (λ c κs. search needs) (λ c κs. search needs) returns returns-2)

@@ -4,11 +4,8 @@ use Rattle.reader_sections.proofs.RunsAt.{word-at-within}
 use Rattle.reader_sections.proofs.steps.span_at.Statement.{statement}
 use Rattle.reader_sections.proofs.steps.span_at.Tie as tie
 
-word-at-requires : tie.Need-word-at-requires
-word-at-requires c κs = search needs
-
 returns : tie.Need-returns
 returns c = search (word-at-within, needs)
 
 pub span-at-spec : {M : Type 1} → statement M
-span-at-spec = tie.close (tie.spec word-at-requires returns)
+span-at-spec = tie.close (tie.spec (λ c κs. search needs) returns)

@@ -4,11 +4,8 @@ use Rattle.reader_sections.proofs.Leads.{before-is}
 use Rattle.reader_sections.proofs.steps.step_at.Statement.{statement}
 use Rattle.reader_sections.proofs.steps.step_at.Tie as tie
 
-span-at-requires : tie.Need-span-at-requires
-span-at-requires c κs = search needs
-
 returns : tie.Need-returns
 returns c = search (before-is, needs)
 
 pub step-at-spec : {M : Type 1} → statement M
-step-at-spec = tie.close (tie.spec span-at-requires returns)
+step-at-spec = tie.close (tie.spec (λ c κs. search needs) returns)

@@ -3,13 +3,13 @@ use borrow.Author.Needs.{needs}
 use mathlib.Core.List.{List}
 use mathlib.Core.Path.{refl}
 use Prim.Native.Nat.{ℕ}
+use Rattle.vocabulary.proofs.FixedWords.{fixed-test, fixed-this, fixed-is, fixed-a, fixed-sigmet-comma}
 use Rattle.message.specs.Words.{testTexts}
 use Rattle.grammar.specs.States.State.{atTestText}
 use Rattle.grammar.specs.Steps.{step}
-use Rattle.vocabulary.proofs.FixedWords.{fixed-test, fixed-this, fixed-is, fixed-a, fixed-sigmet-comma}
+use Rattle.reader_sections.specs.declared.steps.Step.{Step}
 use Rattle.reader_sections.specs.Forms.{PleaseSays, LongTestSays}
 use Rattle.reader_sections.specs.Steps.{TakesFixed}
-use Rattle.reader_sections.specs.declared.steps.Step.{Step}
 use Rattle.reader_sections.proofs.Leads.{then}
 use Rattle.reader_sections.proofs.test_texts.read_long_test.Statement.{statement}
 use Rattle.reader_sections.proofs.test_texts.read_long_test.Tie as tie
@@ -27,35 +27,11 @@ this-is-a-test this is a test sigmet please = record {
   stands = please .stands;
 }
 
-fixed-at-requires : tie.Need-fixed-at-requires
-fixed-at-requires c κs = search needs
-
-fixed-at-requires-2 : tie.Need-fixed-at-requires-2
-fixed-at-requires-2 c κs = search needs
-
-fixed-at-requires-3 : tie.Need-fixed-at-requires-3
-fixed-at-requires-3 c κs = search needs
-
-fixed-at-requires-4 : tie.Need-fixed-at-requires-4
-fixed-at-requires-4 c κs = search needs
-
-fixed-at-requires-5 : tie.Need-fixed-at-requires-5
-fixed-at-requires-5 c κs = search needs
-
-read-please-requires : tie.Need-read-please-requires
-read-please-requires c κs = search needs
-
 returns : tie.Need-returns
 returns c = search this-is-a-test
 
 pub read-long-test-spec : {M : Type 1} → statement M
 read-long-test-spec =
     tie.close
-    (tie.spec
-    fixed-at-requires
-    fixed-at-requires-2
-    fixed-at-requires-3
-    fixed-at-requires-4
-    fixed-at-requires-5
-    read-please-requires
-    returns)
+    (tie.spec (λ c κs. search needs) (λ c κs. search needs) (λ c κs. search needs) (λ c κs. search needs)
+    (λ c κs. search needs) (λ c κs. search needs) returns)

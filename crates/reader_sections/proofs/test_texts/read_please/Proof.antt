@@ -4,14 +4,14 @@ use mathlib.Core.List.{List}
 use mathlib.Core.Path.{refl}
 use Prim.Native.Nat.{ℕ}
 use Rattle.lists.specs.Text.{bytes}
+use Rattle.vocabulary.proofs.FixedWords.{fixed-please}
 use Rattle.message.specs.Words.{testTexts}
 use Rattle.grammar.specs.Records.{testOf}
 use Rattle.grammar.specs.States.State.{atTestText, atEnd}
 use Rattle.grammar.specs.Steps.{step}
-use Rattle.vocabulary.proofs.FixedWords.{fixed-please}
+use Rattle.reader_sections.specs.declared.steps.Step.{Step}
 use Rattle.reader_sections.specs.Forms.{PleaseSays}
 use Rattle.reader_sections.specs.Steps.{TakesFixed, TakesLong}
-use Rattle.reader_sections.specs.declared.steps.Step.{Step}
 use Rattle.reader_sections.proofs.Leads.{then}
 use Rattle.reader_sections.proofs.test_texts.read_please.Statement.{statement}
 use Rattle.reader_sections.proofs.test_texts.read_please.Tie as tie
@@ -26,18 +26,8 @@ please-disregard please disregard = record {
   stands = disregard .stands;
 }
 
-fixed-at-requires : tie.Need-fixed-at-requires
-fixed-at-requires c κs = search needs
-
-slice-aggregate-long-at : tie.Need-slice-aggregate-long-at
-slice-aggregate-long-at c = search needs
-
-long-at-requires : tie.Need-long-at-requires
-long-at-requires c κs = search needs
-
 returns : tie.Need-returns
 returns c = search please-disregard
 
 pub read-please-spec : {M : Type 1} → statement M
-read-please-spec =
-    tie.close (tie.spec fixed-at-requires slice-aggregate-long-at long-at-requires returns)
+read-please-spec = tie.close (tie.spec (λ c κs. search needs) (search needs) (λ c κs. search needs) returns)

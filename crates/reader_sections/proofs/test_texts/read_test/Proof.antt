@@ -5,12 +5,12 @@ use mathlib.Core.List.{List}
 use mathlib.Core.Path.{_≡_, refl}
 use Prim.Native.Nat.{ℕ}
 use borrow.Author.Tests.{not-true, not-false}
+use Rattle.vocabulary.proofs.FixedWords.{fixed-sigmet}
 use Rattle.grammar.specs.States.State.{atTest, atTestText}
 use Rattle.grammar.specs.Steps.{step}
-use Rattle.vocabulary.proofs.FixedWords.{fixed-sigmet}
+use Rattle.reader_sections.specs.declared.steps.Step.{Step}
 use Rattle.reader_sections.specs.Forms.{PleaseSays, TestSays}
 use Rattle.reader_sections.specs.Steps.{MayTake}
-use Rattle.reader_sections.specs.declared.steps.Step.{Step}
 use Rattle.reader_sections.proofs.Leads.{then}
 use Rattle.reader_sections.proofs.test_texts.read_test.Statement.{statement}
 use Rattle.reader_sections.proofs.test_texts.read_test.Tie as tie
@@ -27,17 +27,11 @@ module _ {t : List ℕ} {from a : Step} {found : Bool} (sigmet : MayTake 0x01534
     stands = please .stands;
   }
 
-perhaps-at-requires : tie.Need-perhaps-at-requires
-perhaps-at-requires c κs = search needs
-
 returns : tie.Need-returns
 returns c = search (test-only, not-true)
-
-read-please-requires : tie.Need-read-please-requires
-read-please-requires c κs = search needs
 
 returns-2 : tie.Need-returns-2
 returns-2 c = search (test-sigmet, not-false)
 
 pub read-test-spec : {M : Type 1} → statement M
-read-test-spec = tie.close (tie.spec perhaps-at-requires returns read-please-requires returns-2)
+read-test-spec = tie.close (tie.spec (λ c κs. search needs) returns (λ c κs. search needs) returns-2)

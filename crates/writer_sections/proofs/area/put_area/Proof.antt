@@ -1,7 +1,7 @@
 -- `put_area` meets its contract: its words, one behind the other. Assumes nothing.
 use borrow.Author.Needs.{needs}
-use Rattle.message.specs.Words.{areaWords}
 use Rattle.pens.proofs.PenLaws.{a-line, and-then, renamed}
+use Rattle.message.specs.Words.{areaWords}
 use Rattle.writer_sections.proofs.area.put_area.Statement.{statement}
 use Rattle.writer_sections.proofs.area.put_area.Tie as tie
 

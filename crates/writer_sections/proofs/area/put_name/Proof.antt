@@ -1,9 +1,9 @@
 -- `put_name` meets its contract: its text is its words with their spaces, and the space before the first. Assumes nothing.
+use borrow.Author.Needs.{needs}
 use mathlib.Core.Path.{_≡_, sym}
 use native.Mathlib.Omega.{arith}
-use lib.Seq.{length-take-le}
 use lib.ListN.{length}
-use borrow.Author.Needs.{needs}
+use lib.Seq.{length-take-le}
 use Rattle.message.specs.Limits.{nameBytes}
 use Rattle.writer_sections.proofs.SectionLaws.{name-put}
 use Rattle.writer_sections.proofs.area.put_name.Statement.{statement}

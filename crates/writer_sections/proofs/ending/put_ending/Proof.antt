@@ -1,7 +1,7 @@
 -- `put_ending` meets its contract: each ending has its words. Assumes nothing.
 use borrow.Author.Needs.{needs}
-use Rattle.message.specs.Reports.{endingWords}
 use Rattle.pens.proofs.PenLaws.{no-words}
+use Rattle.message.specs.Reports.{endingWords}
 use Rattle.writer_sections.proofs.RecordLaws.{forecast-good}
 use Rattle.writer_sections.proofs.SectionLaws.{ending-found}
 use Rattle.writer_sections.proofs.ending.put_ending.Statement.{statement}

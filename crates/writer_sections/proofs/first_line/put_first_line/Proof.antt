@@ -1,8 +1,8 @@
 -- `put_first_line` meets its contract: its words, one behind the other. Assumes nothing.
 use borrow.Author.Needs.{needs}
 use Rattle.figures.specs.Codes.{behindOne}
-use Rattle.message.specs.Words.{lineWords}
 use Rattle.pens.proofs.PenLaws.{a-line}
+use Rattle.message.specs.Words.{lineWords}
 use Rattle.writer_sections.proofs.Sentences.{word}
 use Rattle.writer_sections.proofs.first_line.put_first_line.Statement.{statement}
 use Rattle.writer_sections.proofs.first_line.put_first_line.Tie as tie

@@ -1,7 +1,7 @@
 -- `put_form` meets its contract: each form has its words. Assumes nothing.
 use borrow.Author.Needs.{needs}
-use Rattle.message.specs.Words.{formWords}
 use Rattle.pens.proofs.PenLaws.{no-words}
+use Rattle.message.specs.Words.{formWords}
 use Rattle.writer_sections.proofs.RecordLaws.{test-least, test-most, reported}
 use Rattle.writer_sections.proofs.SectionLaws.{form-found}
 use Rattle.writer_sections.proofs.form.put_form.Statement.{statement}

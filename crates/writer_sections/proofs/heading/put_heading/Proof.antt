@@ -1,7 +1,7 @@
 -- `put_heading` meets its contract: its words, one behind the other. Assumes nothing.
 use borrow.Author.Needs.{needs}
-use Rattle.message.specs.Words.{headingWords}
 use Rattle.pens.proofs.PenLaws.{a-line}
+use Rattle.message.specs.Words.{headingWords}
 use Rattle.writer_sections.proofs.Sentences.{word}
 use Rattle.writer_sections.proofs.heading.put_heading.Statement.{statement}
 use Rattle.writer_sections.proofs.heading.put_heading.Tie as tie

@@ -1,16 +1,16 @@
 -- `put_points` meets its contract: behind the first point come the others, a `-` before each. Assumes nothing.
+use borrow.Author.Needs.{needs}
 use mathlib.Core.Path.{_≡_, refl}
 use Prim.Native.Nat.{_-_, _≤_}
 use native.Mathlib.Omega.{arith}
 use lib.ListN.{length}
-use borrow.Author.Needs.{needs}
 use Rattle.lists.specs.Lists.{part}
-use Rattle.coordinates.specs.Points.{noPoint}
 use Rattle.vocabulary.proofs.FixedWords.{fixed-dash}
-use Rattle.message.specs.Limits.{mostPoints}
-use Rattle.message.specs.Locations.{dashed}
+use Rattle.coordinates.specs.Points.{noPoint}
 use Rattle.pens.specs.Pens.{Words}
 use Rattle.pens.proofs.PenLaws.{no-words}
+use Rattle.message.specs.Limits.{mostPoints}
+use Rattle.message.specs.Locations.{dashed}
 use Rattle.writer_sections.proofs.SectionLaws.{point-more, points-joined}
 use Rattle.writer_sections.proofs.location.put_points.Statement.{statement}
 use Rattle.writer_sections.proofs.location.put_points.Tie as tie

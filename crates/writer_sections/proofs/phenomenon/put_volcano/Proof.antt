@@ -2,8 +2,8 @@
 use borrow.Author.Needs.{needs}
 use Rattle.figures.specs.Codes.{behindOne}
 use Rattle.pens.proofs.PenLaws.{and-then}
-use Rattle.writer_sections.proofs.Sentences.{word, two-words}
 use Rattle.writer_sections.proofs.RecordLaws.{volcano-mount}
+use Rattle.writer_sections.proofs.Sentences.{word, two-words}
 use Rattle.writer_sections.proofs.phenomenon.put_volcano.Statement.{statement}
 use Rattle.writer_sections.proofs.phenomenon.put_volcano.Tie as tie
 

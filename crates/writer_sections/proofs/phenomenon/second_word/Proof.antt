@@ -1,10 +1,10 @@
 -- `second_word` meets its contract: each number or stretch of numbers has its word. Assumes nothing.
-use mathlib.Core.Path.{refl}
 use mathlib.Core.Logic.{inl, inr}
+use mathlib.Core.Path.{refl}
 use Prim.Native.Nat.{_≤_}
 use native.Mathlib.Omega.{arith}
-use Rattle.lists.specs.Text.{bytes}
 use Rattle.lists.specs.Lists.{same}
+use Rattle.lists.specs.Text.{bytes}
 use Rattle.figures.specs.Codes.{behindOne}
 use Rattle.message.specs.Reports.{phenomena}
 use Rattle.writer_sections.specs.Sections.{secondWord}

@@ -1,7 +1,7 @@
 -- `put_report` meets its contract: its words, one section behind the other. Assumes nothing.
 use borrow.Author.Needs.{needs}
-use Rattle.message.specs.Reports.{reportWords}
 use Rattle.pens.proofs.PenLaws.{and-then}
+use Rattle.message.specs.Reports.{reportWords}
 use Rattle.writer_sections.proofs.RecordLaws.{report-phenomenon, report-extent, report-ending}
 use Rattle.writer_sections.proofs.report.put_report.Statement.{statement}
 use Rattle.writer_sections.proofs.report.put_report.Tie as tie
