@@ -112,10 +112,6 @@ renamed e f = rw e at f
 pub fixed : {k : List ℕ} {code : ℕ} {at n : ℕ} {page p : List ℕ} → FixedWord k code → Words (spellCode code ∷ []) at page n p → Words (k ∷ []) at page n p
 fixed w f = renamed (w .spelled) f
 
--- … without a space
-pub coded : {k : List ℕ} {code : ℕ} {at n : ℕ} {page p : List ℕ} → FixedWord k code → Puts (spellCode code) at page n p → Puts k at page n p
-coded w f = rw (w .spelled) at f
-
 -- a space begins a word of no byte yet
 pub a-space : {at n : ℕ} {page p : List ℕ} → Puts (32 ∷ []) at page n p → Words ([] ∷ []) at page n p
 unfolding spaced
@@ -182,9 +178,3 @@ puts-same f g = sym (f .says) ∙ g .says
 
 pub words-same : {ws : List (List ℕ)} {at n m : ℕ} {page p q : List ℕ} → Words ws at page n p → Words ws at page m q → pen n p ≡ pen m q
 words-same f g = sym (f .says) ∙ g .says
-
--- Two words that were put as one text with a space between.
-pub split-word : (a b : List ℕ) {at n : ℕ} {page p : List ℕ} → Words ((a ++ (32 ∷ b)) ∷ []) at page n p → Words (a ∷ b ∷ []) at page n p
-unfolding spaced
-split-word a b {at} {n} {page} f =
-    record { says = ap (λ (t : List ℕ). strokes (32 ∷ t) (pen at page)) (sym (append-assoc a (32 ∷ b) [])) ∙ f .says }

@@ -11,6 +11,11 @@ use headings::Sequence;
 use headings::good_sequence;
 use headings::sequence_word;
 
+// A space, and the figure 0, as numbers.
+const SPACE: u32 = 32;
+
+const ZERO: u32 = 48;
+
 // Three characters as one number.
 fn three(a: u32, b: u32, c: u32) -> u32
     requires { ⌜ (a < 256) × (b < 256) × (c < 256) ⌝ }
@@ -23,7 +28,7 @@ fn three(a: u32, b: u32, c: u32) -> u32
 fn figure(n: u16) -> u32
     ensures { λ r. ⌜ r ≡ n % 10 + 48 ⌝ }
 {
-    (n % 10) as u32 + 48
+    (n % 10) as u32 + ZERO
 }
 
 pub(crate) fn padded(s: Sequence) -> u32
@@ -34,16 +39,16 @@ pub(crate) fn padded(s: Sequence) -> u32
     let tens = figure(s.number / 10);
     if s.letter == 0 {
         if s.digits == 1 {
-            return three(ones, 32, 32);
+            return three(ones, SPACE, SPACE);
         }
         if s.digits == 2 {
-            return three(tens, ones, 32);
+            return three(tens, ones, SPACE);
         }
         return three(figure(s.number / 10 / 10), tens, ones);
     }
     let letter = s.letter as u32;
     if s.digits == 1 {
-        return three(letter, ones, 32);
+        return three(letter, ones, SPACE);
     }
     three(letter, tens, ones)
 }
@@ -52,13 +57,13 @@ pub(crate) fn padded(s: Sequence) -> u32
 fn before_space(a: u8, b: u8, c: u8) -> usize
     ensures { λ r. ⌜ r ≡ indexOf (eqb 32) (a ∷ b ∷ c ∷ []) ⌝ }
 {
-    if a == 32 {
+    if a == b' ' {
         return 0;
     }
-    if b == 32 {
+    if b == b' ' {
         return 1;
     }
-    if c == 32 {
+    if c == b' ' {
         return 2;
     }
     3

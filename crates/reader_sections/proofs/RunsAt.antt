@@ -105,9 +105,6 @@ word-again {t} {at} {start} {end} h w =
     let e : spanOf t start ≡ spanOf t at = ap (spanOf t) (w .starts) ∙ again t at h in
     record { starts = w .starts ∙ sym (ap (λ (s : Span). s .start) e); ends = w .ends ∙ sym (ap (λ (s : Span). s .end) e); ordered = w .ordered; within = w .within }
 
-pub from-word-again : (t : List ℕ) (at : ℕ) → at ≤ length t → wordFrom t (spanOf t at .start) ≡ wordFrom t at
-from-word-again t at h = ap (λ (s : Span). part (s .start) (s .end) t) (again t at h)
-
 -- blanks before the next word do nothing
 pub skip : (s : State) (t : List ℕ) (at : ℕ) → at ≤ length t → runAt s t at ≡ runAt s t (spanOf t at .start)
 unfolding runAt

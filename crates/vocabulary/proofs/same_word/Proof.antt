@@ -1,5 +1,4 @@
 -- `same_word` meets its contract: the loop keeps what is still to be compared. Assumes nothing.
-use mathlib.Core.Path.{_≡_}
 use Prim.Native.Nat.{_-_}
 use native.Mathlib.Omega.{arith}
 use lib.ListN.{length}
