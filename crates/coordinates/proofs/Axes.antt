@@ -24,7 +24,7 @@ use Rattle.figures.proofs.ReadsLaws.{Back, if-good-back}
 use Rattle.figures.proofs.PlainLaws.{letter-plain, inFigures-plain, plain-cons}
 use Rattle.coordinates.specs.Coordinates.{Axis, northSouth, eastWest, coordinateOf, spellCoordinate, goodCoordinate, noCoordinate}
 use Rattle.coordinates.specs.declared.Coordinate.{Coordinate}
-use Rattle.coordinates.proofs.Goodness.{good-told, none-bad}
+use Rattle.coordinates.proofs.Goodness.{good-parts, none-bad}
 use Rattle.coordinates.proofs.Ways.{no-length}
 
 module _ (a : Axis) where
@@ -60,14 +60,14 @@ module _ (a : Axis) where
   -- what a good coordinate's word is made of: one letter and its digits, which are bytes that a word may have
   module _ (p : letter (a .plus) ≡ true) (m : letter (a .minus) ≡ true) (c : Coordinate) (g : goodCoordinate a c ≡ true) where
     letter-good : letter (c .letter) ≡ true
-    letter-good = sides (good-told a c g .side)
+    letter-good = sides (good-parts a c g .side)
       where
         sides : (c .letter ≡ a .plus) ⊎ (c .letter ≡ a .minus) → letter (c .letter) ≡ true
         sides (inl e) = rw e p
         sides (inr e) = rw e m
 
     pub spell-plain : plainWord (spellCoordinate a c) ≡ true
-    spell-plain = by-form (good-told a c g .form)
+    spell-plain = by-form (good-parts a c g .form)
       where
         by-form : ((c .digits ≡ a .width) × (c .minutes ≡ 0)) ⊎ (c .digits ≡ a .width + 2) → plainWord (spellCoordinate a c) ≡ true
         by-form (inl (e, z)) = rw (spell-degrees c e) (plain-cons (c .letter) (inFigures (a .width) (c .degrees)) (letter-plain (c .letter) letter-good) (inFigures-plain (a .width) (c .degrees)))
@@ -78,7 +78,7 @@ module _ (a : Axis) where
             rw (spell-minutes c e) (plain-cons (c .letter) (d ++ m) (letter-plain (c .letter) letter-good) all)
 
   pub spell-length : (c : Coordinate) → goodCoordinate a c ≡ true → length (spellCoordinate a c) ≡ c .digits + 1
-  spell-length c g = by-form (good-told a c g .form)
+  spell-length c g = by-form (good-parts a c g .form)
     where
       by-form : ((c .digits ≡ a .width) × (c .minutes ≡ 0)) ⊎ (c .digits ≡ a .width + 2) → length (spellCoordinate a c) ≡ c .digits + 1
       by-form (inl (e, z)) = rw (spell-degrees c e) (omega (arith, length-inFigures (a .width) (c .degrees)))
@@ -98,17 +98,17 @@ module _ (a : Axis) where
     few n h = le-trans (lt-of-le-of-lt h room) (pow-le-pow-right (lit< tt) short)
 
     forth : (c : Coordinate) → goodCoordinate a c ≡ true → coordinateOf a (spellCoordinate a c) ≡ c
-    forth c g = by-form (good-told a c g .form)
+    forth c g = by-form (good-parts a c g .form)
       where
         degrees : threeOf (inFigures (a .width) (c .degrees)) ≡ c .degrees
-        degrees = three-forth (a .width) (c .degrees) short (omega (arith, good-told a c g .degrees))
+        degrees = three-forth (a .width) (c .degrees) short (omega (arith, good-parts a c g .degrees))
 
         by-form : ((c .digits ≡ a .width) × (c .minutes ≡ 0)) ⊎ (c .digits ≡ a .width + 2) → coordinateOf a (spellCoordinate a c) ≡ c
         by-form (inl (e, m)) =
             let same : record { letter = c .letter; digits = a .width; degrees = threeOf (inFigures (a .width) (c .degrees)); minutes = 0 } ≡ c = λ i. record { letter = c .letter; digits = sym e i; degrees = degrees i; minutes = sym m i } in
             rw (spell-degrees c e, read-degrees (c .letter) (inFigures (a .width) (c .degrees)) (length-inFigures (a .width) (c .degrees)), same) (pick-true c noCoordinate g)
         by-form (inr e) =
-            let minutes : twoOf (inFigures 2 (c .minutes)) ≡ c .minutes = two-forth (c .minutes) (omega (arith, good-told a c g .minutes)) in
+            let minutes : twoOf (inFigures 2 (c .minutes)) ≡ c .minutes = two-forth (c .minutes) (omega (arith, good-parts a c g .minutes)) in
             let same : record { letter = c .letter; digits = a .width + 2; degrees = threeOf (inFigures (a .width) (c .degrees)); minutes = twoOf (inFigures 2 (c .minutes)) } ≡ c = λ i. record { letter = c .letter; digits = sym e i; degrees = degrees i; minutes = minutes i } in
             rw (spell-minutes c e, read-minutes (c .letter) (inFigures (a .width) (c .degrees)) (length-inFigures (a .width) (c .degrees)) (inFigures 2 (c .minutes)) (length-inFigures 2 (c .minutes)), same) (pick-true c noCoordinate g)
 
@@ -117,14 +117,14 @@ module _ (a : Axis) where
     figures-again ds long h = rw long at (three-back ds (few (threeOf ds) h))
 
     back-degrees : (x : ℕ) (ds : List ℕ) → length ds ≡ a .width → Settled (x ∷ ds)
-    back-degrees x ds long = settled c (x ∷ ds) (read-degrees x ds long) (λ g. rw (spell-degrees c refl, figures-again ds long (good-told a c g .degrees)))
+    back-degrees x ds long = settled c (x ∷ ds) (read-degrees x ds long) (λ g. rw (spell-degrees c refl, figures-again ds long (good-parts a c g .degrees)))
       where
         c : Coordinate
         c = record { letter = x; digits = a .width; degrees = threeOf ds; minutes = 0 }
 
     back-minutes : (x : ℕ) (ds ms : List ℕ) → length ds ≡ a .width → length ms ≡ 2 → Settled (x ∷ (ds ++ ms))
     back-minutes x ds ms long two = settled c (x ∷ (ds ++ ms)) (read-minutes x ds long ms two)
-        (λ g. rw (spell-minutes c refl, figures-again ds long (good-told a c g .degrees), two-back ms two (omega (arith, good-told a c g .minutes))))
+        (λ g. rw (spell-minutes c refl, figures-again ds long (good-parts a c g .degrees), two-back ms two (omega (arith, good-parts a c g .minutes))))
       where
         c : Coordinate
         c = record { letter = x; digits = a .width + 2; degrees = threeOf ds; minutes = twoOf ms }

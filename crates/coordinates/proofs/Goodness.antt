@@ -22,15 +22,15 @@ pub record Good (a : Axis) (c : Coordinate) : Type 0 where
   pub end : (c .degrees < a .greatest) ⊎ (c .minutes ≡ 0)
 
 module _ (a : Axis) (c : Coordinate) where
-  pub good-told : goodCoordinate a c ≡ true → Good a c
+  pub good-parts : goodCoordinate a c ≡ true → Good a c
   unfolding goodCoordinate
-  good-told g = record {
+  good-parts g = record {
     side = either-cases (eqb (c .letter) (a .plus)) _ (both-left _ _ said) (λ e. inl (eqb-true (c .letter) (a .plus) e)) (λ e. inr (eqb-true (c .letter) (a .minus) e));
     form =
         either-cases (both (eqb (c .digits) (a .width)) (eqb (c .minutes) 0)) _ (both-right (either (eqb (c .letter) (a .plus)) (eqb (c .letter) (a .minus))) _ said)
         (λ e. inl (eqb-true (c .digits) (a .width) (both-left _ _ e), eqb-true (c .minutes) 0 (both-right (eqb (c .digits) (a .width)) _ e)))
         (λ e. inr (eqb-true (c .digits) (a .width + 2) e));
-    degrees = leb-true (c .degrees) (a .greatest) (both-left _ _ told);
+    degrees = leb-true (c .degrees) (a .greatest) (both-left _ _ sum);
     minutes = leb-true (c .minutes) 59 (both-left _ _ rest);
     end =
         either-cases (ltb (c .degrees) (a .greatest)) _ (both-right (leb (c .minutes) 59) _ rest)
@@ -41,11 +41,11 @@ module _ (a : Axis) (c : Coordinate) where
       said : written a c ≡ true
       said = both-left (written a c) (counted a c) g
 
-      told : counted a c ≡ true
-      told = both-right (written a c) (counted a c) g
+      sum : counted a c ≡ true
+      sum = both-right (written a c) (counted a c) g
 
       rest : both (leb (c .minutes) 59) (either (ltb (c .degrees) (a .greatest)) (eqb (c .minutes) 0)) ≡ true
-      rest = both-right (leb (c .degrees) (a .greatest)) _ told
+      rest = both-right (leb (c .degrees) (a .greatest)) _ sum
 
   pub good-is : Good a c → goodCoordinate a c ≡ true
   unfolding goodCoordinate
@@ -68,7 +68,7 @@ module _ (a : Axis) (c : Coordinate) where
 
   -- in minutes, it lies within the greatest degree
   pub good-size : goodCoordinate a c ≡ true → c .degrees * 60 + c .minutes ≤ a .greatest * 60
-  good-size g = within (good-told g) (good-told g .end)
+  good-size g = within (good-parts g) (good-parts g .end)
     where
       within : Good a c → (c .degrees < a .greatest) ⊎ (c .minutes ≡ 0) → c .degrees * 60 + c .minutes ≤ a .greatest * 60
       within t (inl h) = omega (arith, t .minutes)

@@ -32,7 +32,11 @@ pub const NO_POINT: Point = Point {
     longitude: NO_COORDINATE,
 };
 
-// The greatest degrees, and the minutes once around the earth.
+// How many figures degrees have, the greatest degrees, and the minutes once around the earth.
+pub const LATITUDE_FIGURES: u8 = 2;
+
+pub const LONGITUDE_FIGURES: u8 = 3;
+
 const MOST_LATITUDE: u16 = 90;
 
 const MOST_LONGITUDE: u16 = 180;
@@ -43,26 +47,26 @@ const ROUND: u32 = 21600;
 pub fn latitude(w: &[u8]) -> Coordinate
     ensures { λ r. ⌜ r ≡ coordinateOf northSouth (now (w .entry)) ⌝ }
 {
-    axis::coordinate(w, 2, MOST_LATITUDE, b'N', b'S')
+    axis::coordinate(w, LATITUDE_FIGURES, MOST_LATITUDE, b'N', b'S')
 }
 
 // The longitude that a word is, or all zero.
 pub fn longitude(w: &[u8]) -> Coordinate
     ensures { λ r. ⌜ r ≡ coordinateOf eastWest (now (w .entry)) ⌝ }
 {
-    axis::coordinate(w, 3, MOST_LONGITUDE, b'E', b'W')
+    axis::coordinate(w, LONGITUDE_FIGURES, MOST_LONGITUDE, b'E', b'W')
 }
 
 pub fn good_latitude(c: Coordinate) -> bool
     ensures { λ r. ⌜ r ≡ goodCoordinate northSouth c ⌝ }
 {
-    axis::good(c, 2, MOST_LATITUDE, b'N', b'S')
+    axis::good(c, LATITUDE_FIGURES, MOST_LATITUDE, b'N', b'S')
 }
 
 pub fn good_longitude(c: Coordinate) -> bool
     ensures { λ r. ⌜ r ≡ goodCoordinate eastWest c ⌝ }
 {
-    axis::good(c, 3, MOST_LONGITUDE, b'E', b'W')
+    axis::good(c, LONGITUDE_FIGURES, MOST_LONGITUDE, b'E', b'W')
 }
 
 pub fn empty_coordinate(c: Coordinate) -> bool

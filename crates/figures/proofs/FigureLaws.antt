@@ -105,11 +105,11 @@ module _ (limit : ℕ) where
   capped-forth k n h l m = sym (capped-below limit n (figuresOf (inFigures k n)) (sym (figures-forth k n h l)) m)
 
   module _ (few : limit ≤ 100000) (w : List ℕ) (h : capped limit (figuresOf w) < limit) where
-    told : capped limit (figuresOf w) ≡ figuresOf w
-    told = capped-is limit (figuresOf w) h
+    below : capped limit (figuresOf w) ≡ figuresOf w
+    below = capped-is limit (figuresOf w) h
 
     pub capped-back : inFigures (length w) (capped limit (figuresOf w)) ≡ w
-    capped-back = rw told (figures-back w (omega (arith, told)))
+    capped-back = rw below (figures-back w (omega (arith, below)))
 
 pub two-forth : (n : ℕ) → n < 100 → twoOf (inFigures 2 n) ≡ n
 two-forth n h = capped-forth 100 2 n (omega arith) h h

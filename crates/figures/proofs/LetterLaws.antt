@@ -29,9 +29,9 @@ pub letters-barred : (k : ℕ) (w : List ℕ) → allOf letter w ≡ false → 0
 unfolding lettersOf
 letters-barred k w e = rw (e, both-false-right (eqb (length w) k) refl, both-false-right (leb k 4) refl)
 
-pub letters-told : {n : ℕ} (k : ℕ) (w : List ℕ) → k ≤ 4 → length w ≡ k → allOf letter w ≡ true → n ≡ worth 256 w → n ≡ lettersOf k w
+pub letters-are : {n : ℕ} (k : ℕ) (w : List ℕ) → k ≤ 4 → length w ≡ k → allOf letter w ≡ true → n ≡ worth 256 w → n ≡ lettersOf k w
 unfolding lettersOf
-letters-told k w h e t m = rw (le-leb k 4 h, eq-eqb (length w) k e, t) m
+letters-are k w h e t m = rw (le-leb k 4 h, eq-eqb (length w) k e, t) m
 
 pub length-inLetters : (k n : ℕ) → length (inLetters k n) ≡ k
 length-inLetters k n = length-places 256 k n
@@ -58,7 +58,7 @@ letters-good w t = rw (letters-again w t, t, lt-ltb (worth 256 w) (256 ^ length 
 
 letters-forth : (k : ℕ) → k ≤ 4 → (n : ℕ) → goodLetters k n ≡ true → lettersOf k (inLetters k n) ≡ n
 letters-forth k h n g =
-    sym (letters-told k (inLetters k n) h (length-inLetters k n) (inLetters-letters k n g) (sym (worth-places 256 (lit< tt) k n (good-lt k n g))))
+    sym (letters-are k (inLetters k n) h (length-inLetters k n) (inLetters-letters k n g) (sym (worth-places 256 (lit< tt) k n (good-lt k n g))))
 
 letters-back : (k : ℕ) (w : List ℕ) → Back (inLetters k) (goodLetters k) 0 w (lettersOf k w)
 unfolding lettersOf

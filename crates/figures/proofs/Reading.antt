@@ -61,15 +61,15 @@ module _ (b v most : ℕ) (f : ℕ → Bool) (w ds : List ℕ) where
     pub passed : length w ≤ i → allOf f w ≡ true
     passed h = r .passes ∙ all-end f w i h
 
-    pub told : length w ≤ i → length ds ≡ length w → n ≡ worthAfter b v ds
-    told h long = sym (r .worths ∙ worth-end b n ds i (omega arith))
+    pub whole : length w ≤ i → length ds ≡ length w → n ≡ worthAfter b v ds
+    whole h long = sym (r .worths ∙ worth-end b n ds i (omega arith))
 
     -- the two ways out of the loop, of a definition that asks for at most so many elements that pass
     pub stops : (x : ℕ) → i < length w → f (getD w i 0) ≡ false → x ≡ pick (both (leb (length w) most) (allOf f w)) (worthAfter b v ds) x
     stops x h e = rw (barred h e, both-false-right (leb (length w) most) refl)
 
     pub ends : (x : ℕ) → length w ≤ i → length ds ≡ length w → n ≡ pick (both (leb (length w) most) (allOf f w)) (worthAfter b v ds) x
-    ends x h long = rw (passed h, le-leb (length w) most (r .short)) (told h long)
+    ends x h long = rw (passed h, le-leb (length w) most (r .short)) (whole h long)
 
   pub too-long : (x : ℕ) → most < length w → x ≡ pick (both (leb (length w) most) (allOf f w)) (worthAfter b v ds) x
   too-long x h = rw (lt-leb (length w) most h)

@@ -1,4 +1,4 @@
--- Readers of the form `pick test (kept good none value) none`: the word passes a test, and its value is kept where it is good.
+-- Readers of the form `pick test (ifGood good none value) none`: the word passes a test, and its value stands where it is good.
 -- Assumes nothing.
 use mathlib.Core.Bool.{Bool, true, false}
 use mathlib.Core.List.{List}
@@ -9,7 +9,7 @@ use Rattle.lists.specs.Choice.{pick}
 use Rattle.lists.proofs.Choice.{by, clash}
 use Rattle.figures.specs.Reads.{Reads, ifGood}
 
--- The ways out of the code of such a reader: `v` is the value as the code has it, `r` what it was told of its goodness.
+-- The ways out of the code of such a reader: `v` is the value as the code has it, `r` what the code found of its goodness.
 
 pub untested : {A : Type 0} {test : Bool} (value none : A) → test ≡ false → none ≡ pick test value none
 untested value none t = cc

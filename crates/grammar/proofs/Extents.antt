@@ -21,14 +21,14 @@ use Rattle.coordinates.specs.Points.{goodPoint, pointWords}
 use Rattle.coordinates.specs.declared.Point.{Point}
 use Rattle.coordinates.proofs.Axes.{spell-plain, latitude-reads, longitude-reads, latitude-plain, longitude-plain}
 use Rattle.message.specs.Limits.{cta}
-use Rattle.message.specs.Locations.{goodSide, emptySide, noSide, goodBound, locatedBy, goodExtent, sideWords, boundWords, dashed, joined, locationWords, extentWords}
+use Rattle.message.specs.Locations.{goodSide, emptySide, noSide, goodBound, locatedBy, goodExtent, sideWords, boundWords, dashed, joined, locationWords, extentWords, entireWord}
 use Rattle.message.specs.declared.Extent.{Extent}
 use Rattle.message.specs.declared.Location.{Location}
 use Rattle.message.specs.declared.Location.the-variants.{Nowhere, Bounded, Outline, Entire}
 use Rattle.message.specs.declared.Side.{Side}
 use Rattle.message.proofs.Empties.{no-points, no-side}
 use Rattle.message.proofs.Goodness.{point-parts, side-parts, bound-cases, outline-parts}
-use Rattle.grammar.specs.Placing.{is, entireWord, locating, placeStep}
+use Rattle.grammar.specs.Placing.{is, locating, placeStep}
 use Rattle.grammar.specs.Placing.Placed.{on}
 use Rattle.grammar.specs.Records.{bounded, entirely}
 use Rattle.grammar.specs.Runs.{walk}

@@ -22,13 +22,13 @@ use Rattle.coordinates.specs.declared.Point.{Point}
 use Rattle.coordinates.proofs.Axes.{latitude-reads, longitude-reads}
 use Rattle.coordinates.proofs.Goodness.{good-not-empty, no-point-empty}
 use Rattle.message.specs.Limits.{leastPoints, mostPoints}
-use Rattle.message.specs.Locations.{goodSide, emptySide, noSide, goodBound, closingPoint, goodOutline, goodExtent, sideWords, boundWords, dashed, joined, extentWords}
+use Rattle.message.specs.Locations.{goodSide, emptySide, noSide, goodBound, closingPoint, goodOutline, goodExtent, sideWords, boundWords, dashed, joined, extentWords, entireWord}
 use Rattle.message.specs.declared.Extent.{Extent}
 use Rattle.message.specs.declared.Side.{Side}
 use Rattle.message.proofs.Empties.{all-replicate, no-points-empty, no-side-empty}
 use Rattle.message.proofs.Goodness.{point-good, side-parts}
 use Rattle.grammar.specs.Numbers.{locationPart, followingPart}
-use Rattle.grammar.specs.Placing.{enough, mayFollow, is, Placed, onIf, thereIf, sideWord, entireWord, closes, roomAfter, pointed, locating, placeStep}
+use Rattle.grammar.specs.Placing.{enough, mayFollow, is, Placed, onIf, thereIf, sideWord, closes, roomAfter, pointed, locating, placeStep}
 use Rattle.grammar.specs.Placing.Placed.{on, there, past, nowhere}
 use Rattle.grammar.specs.Records.{bounded, outlined, entirely}
 use Rattle.grammar.specs.States.{Site, Placing}

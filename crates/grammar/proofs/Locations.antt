@@ -23,7 +23,7 @@ use Rattle.coordinates.proofs.Axes.{latitude-reads, longitude-reads}
 use Rattle.levels.specs.Levels.{levelOf, goodLevelWord, goodLevel}
 use Rattle.levels.specs.declared.Level.the-variants.{Flight}
 use Rattle.message.specs.Limits.{leastPoints, mostPoints}
-use Rattle.message.specs.Locations.{goodSide, noSide, goodExtent, extentWords}
+use Rattle.message.specs.Locations.{goodSide, noSide, goodExtent, extentWords, entireWord}
 use Rattle.message.specs.Records.{good}
 use Rattle.message.specs.declared.Ending.the-variants.{Forecast}
 use Rattle.message.specs.declared.Extent.{Extent}
@@ -31,7 +31,7 @@ use Rattle.message.specs.declared.Side.{Side}
 use Rattle.message.proofs.Goodness.{point-good}
 use Rattle.grammar.specs.Numbers.{locationPart, placeNumber}
 use Rattle.grammar.specs.Parts.{marked}
-use Rattle.grammar.specs.Placing.{is, Placed, closes, sameLatitude, roomAfter, entireWord, locating, placeStep}
+use Rattle.grammar.specs.Placing.{is, Placed, closes, sameLatitude, roomAfter, locating, placeStep}
 use Rattle.grammar.specs.Placing.Placed.{on, there}
 use Rattle.grammar.specs.Records.{bounded, outlined, entirely, areaOf, reportOf}
 use Rattle.grammar.specs.Runs.{walk}

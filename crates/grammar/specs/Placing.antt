@@ -13,8 +13,8 @@ use Rattle.coordinates.specs.Coordinates.{Axis, northSouth, eastWest, coordinat
 use Rattle.coordinates.specs.Points.{sameValue, samePoint}
 use Rattle.coordinates.specs.declared.Coordinate.{Coordinate}
 use Rattle.coordinates.specs.declared.Point.{Point}
-use Rattle.message.specs.Limits.{leastPoints, mostPoints, cta}
-use Rattle.message.specs.Locations.{noSide}
+use Rattle.message.specs.Limits.{leastPoints, mostPoints}
+use Rattle.message.specs.Locations.{noSide, entireWord}
 use Rattle.message.specs.declared.Extent.{Extent}
 use Rattle.grammar.specs.Records.{bounded, outlined, entirely}
 use Rattle.grammar.specs.States.{Placing}
@@ -67,10 +67,6 @@ mayFollow ps c = either (roomAfter ps) (sameLatitude ps c)
 unfoldable pub pointed : List Point → Point → Placed
 pointed ps p =
     pick (closes ps p) (thereIf (enough ps) (outlined (ps ++ (p ∷ [])))) (onIf (roomAfter ps) (atDash (ps ++ (p ∷ []))))
-
--- "Entire: `ENTIRE FIR`, or `ENTIRE CTA` exactly when the area is a CTA."
-abbrev pub entireWord : ℕ → List ℕ
-entireWord closing = pick (eqb closing cta) (bytes "CTA") (bytes "FIR")
 
 -- "Bounds: `N OF` or `S OF` a latitude; `E OF` or `W OF` a longitude; or a latitude bound, `AND`, a longitude bound." Then `ENTIRE` and `WI`.
 unfoldable pub locating : List ℕ → Placed

@@ -46,10 +46,6 @@ pub both-unit : (b : Bool) → both b true ≡ b
 both-unit true = refl
 both-unit false = refl
 
-pub both-assoc : (a b c : Bool) → both (both a b) c ≡ both a (both b c)
-both-assoc true b c = refl
-both-assoc false b c = refl
-
 pub both-false-left : {a : Bool} (b : Bool) → a ≡ false → both a b ≡ false
 both-false-left b p = cc
 

@@ -91,8 +91,11 @@ joined [] = []
 joined (p ∷ ps) = pointWords p ++ dashed ps
 
 -- "`ENTIRE FIR`, or `ENTIRE CTA` exactly when the area is a CTA"
+abbrev pub entireWord : ℕ → List ℕ
+entireWord closing = pick (eqb closing cta) (bytes "CTA") (bytes "FIR")
+
 abbrev pub entireWords : ℕ → List (List ℕ)
-entireWords closing = bytes "ENTIRE" ∷ pick (eqb closing cta) (bytes "CTA") (bytes "FIR") ∷ []
+entireWords closing = bytes "ENTIRE" ∷ entireWord closing ∷ []
 
 -- the words of a location, in an area with that closing word
 abbrev pub locationWords : ℕ → Location → List Point → List (List ℕ)

@@ -27,6 +27,7 @@ use Rattle.figures.specs.Reads.{Reads}
 use Rattle.figures.proofs.CodeLaws.{same-code}
 use Rattle.figures.proofs.PlainLaws.{letter-plain, byte-solid}
 use Rattle.figures.proofs.TableLaws.{numbered-all, numbers-reads}
+use Rattle.vocabulary.specs.Codes.{code-psn}
 use Rattle.names.specs.Names.{closingWords, closingOf, goodClosing, nameByte, nameWord, closers, inName, onto, pieces, nameText}
 
 -- Closing words.
@@ -47,10 +48,10 @@ word-tests w h a f l e r = rw (r, e, lt-ltb 0 (length w) h, a, f, l)
 pub area-word : (w : List ℕ) → both (nameWord w) (eqb (closingOf w) 0) ≡ inName false w
 area-word w = by (inTable closingWords (wordIn closingWords w)) (λ e. rw (e, ne-eqb (1 + wordIn closingWords w) 0 (λ q. omega arith))) (λ e. rw e)
 
-pub mountain-word : (w : List ℕ) → both (nameWord w) (not (eqb (codeOf w) 0x0150534e)) ≡ inName true w
+pub mountain-word : (w : List ℕ) → both (nameWord w) (not (eqb (codeOf w) code-psn)) ≡ inName true w
 unfolding indexOf allOf codeOf worthAfter
 mountain-word w =
-    let k : eqb (codeOf w) 0x0150534e ≡ same w (bytes "PSN") = same-code w (bytes "PSN") refl in
+    let k : eqb (codeOf w) code-psn ≡ same w (bytes "PSN") = same-code w (bytes "PSN") refl in
     by (same w (bytes "PSN")) (λ e. rw (k, e)) (λ e. rw (k, e))
 
 -- What stands between the spaces of a text.

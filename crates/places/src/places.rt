@@ -6,6 +6,8 @@ use crate::Place;
 use crate::padding::held_sequence;
 use calendar::NEVER;
 use calendar::limit_of;
+use headings::KIND_WS;
+use headings::KIND_WV;
 use headings::four_letters;
 use headings::good_correction;
 use lists::both;
@@ -55,7 +57,7 @@ pub fn empty_place(p: Place) -> bool
 fn held_identity(clock: u32, i: Identity) -> bool
     ensures { λ r. ⌜ r ≡ heldIdentity clock i ⌝ }
 {
-    let kind = both(2 <= i.kind, i.kind <= 3);
+    let kind = both(KIND_WS <= i.kind, i.kind <= KIND_WV);
     let formed = both(kind, both(four_letters(i.area), held_sequence(i.sequence)));
     let limit = limit_of(i.kind);
     if i.end <= i.start {

@@ -22,8 +22,8 @@ use Rattle.grammar.specs.States.State.{atEnd, atCorrection, atUnit}
 use Rattle.grammar.specs.States.{State}
 use Rattle.grammar.specs.Steps.{step}
 use Rattle.reader_sections.specs.declared.steps.Step.{Step}
-use Rattle.reader_sections.specs.Heads.{CorrectionSays}
-use Rattle.reader_sections.specs.Steps.{concluded, wordFrom, WordAt, runOn, Leads, Finishes, Stands, Before, Judged, Takes, TakesFixed, TakesLong, MayTake, Closes}
+use Rattle.reader_sections.specs.Openings.{CorrectionSays}
+use Rattle.reader_sections.specs.Steps.{wordOn, concluded, wordFrom, WordAt, runOn, Leads, Finishes, Stands, Before, Judged, Takes, TakesFixed, TakesLong, MayTake, Closes}
 use Rattle.reader_sections.proofs.OneWord.{Goes, good-word, bad-word, part-is, goes-word, same-word}
 use Rattle.reader_sections.proofs.RunsAt.{skip, word-again, some-word}
 use Rattle.reader_sections.proofs.Tells.{FieldTells, correction-tells}
@@ -139,7 +139,7 @@ module _ {t : List ℕ} {from to : Step} {g : Bool} {refusal : ℕ} (f : Stands 
 
 module _ {t : List ℕ} {from to : Step} {g : Bool} {refusal : ℕ} (f : Stands t from) (j : Judged t from g refusal to) where
   module _ {A : Type 0} {read : List ℕ → A} {good : A → Bool} {v : A} (none : good (read []) ≡ false)
-      (e : v ≡ read (part (from .place) (from .end) t)) (b : g ≡ good v) where
+      (e : v ≡ read (wordOn t from)) (b : g ≡ good v) where
     pub takes : Takes read good refusal t from to v
     takes = record {
       says = λ s next k n. judged-leads f j
@@ -156,14 +156,14 @@ field-good {field = field} {none} k w v e =
     by (eqb (field v) none) (λ y. rw y (sym (k .bad w v e (eqb-true _ _ y)))) (λ y. rw y (sym (k .fine w v e (eqb-false _ _ y))))
 
 pub takes-by-field : {A : Type 0} {read : List ℕ → A} {good : A → Bool} {field : A → ℕ} {none : ℕ} {t : List ℕ} {from to : Step} {refusal : ℕ} {v : A}
-    → FieldTells read good field none → Stands t from → v ≡ read (part (from .place) (from .end) t)
+    → FieldTells read good field none → Stands t from → v ≡ read (wordOn t from)
     → Judged t from (not (eqb (field v) none)) refusal to → Takes read good refusal t from to v
 takes-by-field k f e j = takes f j (k .end) e (field-good k _ _ e)
 
 -- a fixed word, by its code
-module _ {t : List ℕ} {from : Step} {c : ℕ} (f : Stands t from) (e : c ≡ codeOf (part (from .place) (from .end) t)) where
-  pub coded : (k : List ℕ) (m : ℕ) → FixedWord k m → eqb c m ≡ same (part (from .place) (from .end) t) k
-  coded k m x = rw (e, sym (x .has)) (same-code (part (from .place) (from .end) t) k (x .is-short))
+module _ {t : List ℕ} {from : Step} {c : ℕ} (f : Stands t from) (e : c ≡ codeOf (wordOn t from)) where
+  pub coded : (k : List ℕ) (m : ℕ) → FixedWord k m → eqb c m ≡ same (wordOn t from) k
+  coded k m x = rw (e, sym (x .has)) (same-code (wordOn t from) k (x .is-short))
 
   -- the code of an empty word is that of no fixed word
   code-never : {k : List ℕ} {m : ℕ} → FixedWord k m → (from .number ≡ 0 → ⊥) → eqb c m ≡ false
@@ -228,14 +228,14 @@ no-word (x ∷ k) h = refl
 
 -- a long fixed word
 pub takes-long : {t wanted : List ℕ} {from to : Step} {refusal : ℕ} {found : Bool} → 0 < length wanted → Stands t from
-    → found ≡ same (part (from .place) (from .end) t) wanted → Judged t from found refusal to → TakesLong wanted refusal t from to
+    → found ≡ same (wordOn t from) wanted → Judged t from found refusal to → TakesLong wanted refusal t from to
 takes-long {wanted = wanted} some f e j = record {
   says = λ s next k n. takes f j {A = List ℕ} {read = λ (u : List ℕ). u} {good = λ (u : List ℕ). same u wanted} (no-word wanted some) refl e .says s (λ u. next) k n;
   stands = j .stands;
 }
 
 -- a correction, or the word is judged as the unit
-module _ {t : List ℕ} {from : Step} {v : ℕ} (f : Stands t from) (e : v ≡ correctionOf (part (from .place) (from .end) t)) where
+module _ {t : List ℕ} {from : Step} {v : ℕ} (f : Stands t from) (e : v ≡ correctionOf (wordOn t from)) where
   pub correction-no : v ≡ 0 → CorrectionSays t from from v
   unfolding step
   correction-no y = record {

@@ -5,7 +5,7 @@ pub mod Leads
 pub mod Sides
 pub mod FirstWords
 pub mod Determined
-pub mod FormLaws
+pub mod NextCode
 pub mod Storms
 pub mod NameBytes
 pub mod NameText

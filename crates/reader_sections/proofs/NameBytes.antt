@@ -11,25 +11,27 @@ use lib.ListN.{length, getD, take, drop, set, replicate, length-append, length-r
 use lib.Seq.{paste-zero, take-length, take-append-seam, take-suc-set, drop-append-add, drop-at, drop-set-lt, paste, paste-suc}
 use Rattle.lists.proofs.Choice.{pick-true}
 use Rattle.lists.proofs.Lists.{length-part}
+use Rattle.message.specs.Limits.{nameBytes}
 use Rattle.message.specs.declared.Name.{Name}
 use Rattle.message.specs.Names.{noName}
 use Rattle.grammar.specs.Records.{nameOf}
 use Rattle.grammar.specs.Steps.{grown}
 use Rattle.reader_sections.specs.declared.steps.Step.{Step}
-use Rattle.reader_sections.specs.Naming.{wordOn, FirstSays, GrownSays}
+use Rattle.reader_sections.specs.Steps.{wordOn}
+use Rattle.reader_sections.specs.Names.{FirstSays, GrownSays}
 use Rattle.reader_sections.specs.Steps.{Stands}
 
 -- the first bytes of a word are in, from a place on
 pub record PutSoFar (d : List ℕ) (at : ℕ) (w out : List ℕ) (i : ℕ) : Type 0 where
   pub within : i ≤ length w
-  pub long : length out ≡ 50
+  pub long : length out ≡ nameBytes
   pub is : out ≡ paste d at w i
 
-pub put-none : {d w : List ℕ} {at : ℕ} → length d ≡ 50 → PutSoFar d at w d 0
+pub put-none : {d w : List ℕ} {at : ℕ} → length d ≡ nameBytes → PutSoFar d at w d 0
 put-none {d} {w} {at} long = record { within = zero-le; long = long; is = paste-zero d at w }
 
 module _ {d w out : List ℕ} {at i : ℕ} (p : PutSoFar d at w out i) where
-  pub put-more : length d ≡ 50 → at + length w ≤ 50 → i < length w → PutSoFar d at w (set out (at + i) (getD w i 0)) (i + 1)
+  pub put-more : length d ≡ nameBytes → at + length w ≤ nameBytes → i < length w → PutSoFar d at w (set out (at + i) (getD w i 0)) (i + 1)
   put-more long room more = record {
     within = omega arith;
     long = length-set out _ _ ∙ p .long;
@@ -51,40 +53,40 @@ name-is : {b c : List ℕ} {n k : ℕ} → b ≡ c → n ≡ k → _≡_ {A = Na
 name-is e f = λ i. record { bytes = e i; count = f i }
 
 -- the first word of a name, put into the bytes of the empty one
-pub first-fits : (w : List ℕ) {begins : Bool} → (begins ≡ true → length w ≤ 50) → begins ≡ true → 0 + length w ≤ 50
+pub first-fits : (w : List ℕ) {begins : Bool} → (begins ≡ true → length w ≤ nameBytes) → begins ≡ true → 0 + length w ≤ nameBytes
 first-fits w h y = omega (arith, h y)
 
 pub no-first : {t : List ℕ} {from : Step} {begins : Bool} → begins ≡ false → FirstSays t from begins noName
 no-first n = record { says = rw n }
 
-pub first-in : {t out : List ℕ} {from : Step} {begins : Bool} → Stands t from → (begins ≡ true → length (wordOn t from) ≤ 50) → begins ≡ true
+pub first-in : {t out : List ℕ} {from : Step} {begins : Bool} → Stands t from → (begins ≡ true → length (wordOn t from) ≤ nameBytes) → begins ≡ true
     → out ≡ take 0 (noName .bytes) ++ (wordOn t from ++ drop (0 + length (wordOn t from)) (noName .bytes))
     → FirstSays t from begins (record { bytes = out; count = from .end - from .place })
 first-in {t} {out} {from} f h y e =
     let w : List ℕ = wordOn t from in
     record {
-      says = name-is (e ∙ rw zero-add (ap (λ (z : List ℕ). w ++ z) (drop-zeros (length w) 50 (h y)))) (sym (length-part (from .place) (from .end) t (f .ordered) (f .within)))
+      says = name-is (e ∙ rw zero-add (ap (λ (z : List ℕ). w ++ z) (drop-zeros (length w) nameBytes (h y)))) (sym (length-part (from .place) (from .end) t (f .ordered) (f .within)))
           ∙ sym (pick-true _ _ y);
     }
 
 -- one more word, put behind a text and a space
-put-behind : (x w : List ℕ) → length x + (1 + length w) ≤ 50
+put-behind : (x w : List ℕ) → length x + (1 + length w) ≤ nameBytes
     → take (length x + 1) (set (nameOf x .bytes) (length x) 32) ++ (w ++ drop (length x + 1 + length w) (set (nameOf x .bytes) (length x) 32)) ≡ nameOf (grown x w) .bytes
 put-behind x w h =
-    let after : List ℕ = zeros (50 - length x) in
-    let long : length (x ++ after) ≡ 50 = length-append x after ∙ rw length-replicate (omega arith) in
+    let after : List ℕ = zeros (nameBytes - length x) in
+    let long : length (x ++ after) ≡ nameBytes = length-append x after ∙ rw length-replicate (omega arith) in
     let front : take (length x + 1) (set (x ++ after) (length x) 32) ≡ x ++ (32 ∷ []) =
     rw add-one (take-suc-set (x ++ after) (length x) 32 (omega arith) ∙ ap (λ (l : List ℕ). l ++ (32 ∷ [])) (take-append-seam x after)) in
     let past : length x + 1 + length w ≡ length x + (1 + length w) = omega arith in
-    let left : 50 - length x - (1 + length w) ≡ 50 - length (grown x w) = omega (arith, length-append x (32 ∷ w)) in
-    let back : drop (length x + 1 + length w) (set (x ++ after) (length x) 32) ≡ zeros (50 - length (grown x w)) =
+    let left : nameBytes - length x - (1 + length w) ≡ nameBytes - length (grown x w) = omega (arith, length-append x (32 ∷ w)) in
+    let back : drop (length x + 1 + length w) (set (x ++ after) (length x) 32) ≡ zeros (nameBytes - length (grown x w)) =
     drop-set-lt (length x + 1 + length w) (x ++ after) (length x) 32 (omega arith)
     ∙ (ap (λ (n : ℕ). drop n (x ++ after)) past
-    ∙ (drop-append-add x after (1 + length w) ∙ (drop-zeros (1 + length w) (50 - length x) (omega arith) ∙ ap zeros left))) in
-    let rest : List ℕ = zeros (50 - length (grown x w)) in
+    ∙ (drop-append-add x after (1 + length w) ∙ (drop-zeros (1 + length w) (nameBytes - length x) (omega arith) ∙ ap zeros left))) in
+    let rest : List ℕ = zeros (nameBytes - length (grown x w)) in
     rw (front, back) (append-assoc x (32 ∷ []) (w ++ rest) ∙ sym (append-assoc x (32 ∷ w) rest))
 
-pub grown-says : (name : Name) (w out : List ℕ) (n : ℕ) → name .count + 1 + length w ≤ 50
+pub grown-says : (name : Name) (w out : List ℕ) (n : ℕ) → name .count + 1 + length w ≤ nameBytes
     → out ≡ take (name .count + 1) (set (name .bytes) (name .count) 32) ++ (w ++ drop (name .count + 1 + length w) (set (name .bytes) (name .count) 32))
     → n ≡ name .count + 1 + length w → GrownSays name w (record { bytes = out; count = n })
 grown-says name w out n h e l = record {

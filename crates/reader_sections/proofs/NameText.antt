@@ -25,7 +25,8 @@ use Rattle.grammar.specs.States.{ToArea, State, Move}
 use Rattle.grammar.specs.Steps.{goesIf, grown, begun, goneOn, step}
 use Rattle.grammar.proofs.NameText.{open-area, open-mountain}
 use Rattle.reader_sections.specs.declared.steps.Step.{Step}
-use Rattle.reader_sections.specs.Naming.{wordOn, BelongsSays, FirstSays, GrownSays, TakesName, NameSays}
+use Rattle.reader_sections.specs.Steps.{wordOn}
+use Rattle.reader_sections.specs.Names.{BelongsSays, FirstSays, GrownSays, TakesName, NameSays}
 use Rattle.reader_sections.specs.Steps.{wordFrom, Leads, Stands, Before, Judged}
 use Rattle.reader_sections.proofs.Leads.{then, over, whether, nothing, standing, past-leads, judged-good, takes}
 use Rattle.reader_sections.proofs.OneWord.{part-is, goes-word}
@@ -90,7 +91,7 @@ module _ {m found : Bool} {limit used : ℕ} {t : List ℕ} {from : Step} (b : B
     pub with-room : used + length (wordOn t from) ≤ limit
     with-room = leb-true _ _ (both-right (inName m (wordOn t from)) _ (sym (b .tells) ∙ y))
 
-    pub with-bytes : limit ≤ 50 → used + length (wordOn t from) ≤ 50
+    pub with-bytes : limit ≤ nameBytes → used + length (wordOn t from) ≤ nameBytes
     with-bytes h = omega (arith, with-room)
 
   -- the empty word of a refused step is none of a name

@@ -13,6 +13,7 @@ use borrow.Author.Tests.{ltb-true}
 use Rattle.lists.specs.Choice.{pick, both, either}
 use Rattle.lists.specs.Lists.{part}
 use Rattle.lists.proofs.Choice.{by, clash, both-left, both-right, both-false-left}
+use Rattle.vocabulary.specs.Codes.{code-dash}
 use Rattle.vocabulary.proofs.FixedWords.{fixed-dash}
 use Rattle.coordinates.specs.declared.Coordinate.{Coordinate}
 use Rattle.coordinates.specs.declared.Point.{Point}
@@ -32,7 +33,7 @@ use Rattle.grammar.specs.Steps.{closingAt, after}
 use Rattle.reader_sections.specs.declared.steps.Step.{Step}
 use Rattle.reader_sections.specs.Locations.{LocatedSays}
 use Rattle.reader_sections.specs.Outlines.{Points, FollowsSays, ClosesSays, LatitudeSays, LongitudeSays, PointSays}
-use Rattle.reader_sections.specs.Steps.{wordFrom, WordAt, Leads, Stands, Judged, TakesFixed}
+use Rattle.reader_sections.specs.Steps.{wordOn, wordFrom, WordAt, Leads, Stands, Judged, TakesFixed}
 use Rattle.reader_sections.proofs.Leads.{then, over, nothing, judged-leads, judged-good, takes, field-good, standing}
 use Rattle.reader_sections.proofs.OneWord.{part-is, goes-word, dead-word}
 use Rattle.reader_sections.proofs.RunsAt.{some-word}
@@ -76,7 +77,7 @@ abbrev follows : List Point → Coordinate → Bool
 follows ps d = both (goodCoordinate northSouth d) (mayFollow ps d)
 
 pub latitude-says : {t : List ℕ} {from to : Step} {first : Point} {count refusal : ℕ} {c : Coordinate} {g may : Bool} → Stands t from
-    → c ≡ coordinateOf northSouth (part (from .place) (from .end) t) → FollowsSays first count c may → g ≡ both (not (eqb (c .letter) 0)) may → Judged t from g refusal to
+    → c ≡ coordinateOf northSouth (wordOn t from) → FollowsSays first count c may → g ≡ both (not (eqb (c .letter) 0)) may → Judged t from g refusal to
     → LatitudeSays first count refusal t from to c
 latitude-says f e may b j = record {
   says = λ ps k. takes f j (both-false-left _ (latitude-tells .end)) e (b ∙ rw (field-good latitude-tells _ _ e, may .says ps k));
@@ -105,7 +106,7 @@ module _ {t : List ℕ} {at start end : ℕ} (w : WordAt t at start end) {first 
       rw (east-is w e, ← (shut .says ps k), k .counted, fit) (picked (goodCoordinate eastWest (p .longitude)) closed (leb leastPoints (count + 1)) (ltb (count + 1) mostPoints) _ _)
 
 module _ {t : List ℕ} {from to : Step} {first : Point} {count refusal : ℕ} {p : Point} {closed fits g : Bool} (f : Stands t from)
-    (e : p .longitude ≡ coordinateOf eastWest (part (from .place) (from .end) t)) (shut : ClosesSays first count p closed)
+    (e : p .longitude ≡ coordinateOf eastWest (wordOn t from)) (shut : ClosesSays first count p closed)
     (fit : fits ≡ pick closed (leb leastPoints (count + 1)) (ltb (count + 1) mostPoints)) (b : g ≡ both (not (eqb (p .longitude .letter) 0)) fits)
     (j : Judged t from g refusal to) where
   good-fits : g ≡ both (goodCoordinate eastWest (p .longitude)) fits
@@ -147,7 +148,7 @@ module _ {first : Point} {count refusal : ℕ} {t : List ℕ} {from mid : Step} 
   point-closing : closed ≡ true → Leads (atPlace site (atLatitude ps)) t from to (after site (outlined (ps ++ (p ∷ []))))
   point-closing e = then latitude-on (g .closing e site ps n k)
 
-  point-going : closed ≡ false → {last : Step} → TakesFixed 0x012d refusal t to last
+  point-going : closed ≡ false → {last : Step} → TakesFixed code-dash refusal t to last
       → Leads (atPlace site (atLatitude ps)) t from last (atPlace site (atLatitude (ps ++ (p ∷ []))))
   unfolding placeStep
   point-going e d = then (then latitude-on (g .going e site ps n k)) (fixed-on d fixed-dash site (atDash (ps ++ (p ∷ []))) n (atLatitude (ps ++ (p ∷ []))) (λ z. refl))
@@ -163,7 +164,7 @@ module _ {first : Point} {count refusal : ℕ} {t : List ℕ} {from mid to : Ste
     stands = g .stands;
   }
 
-  pub going-point : {last : Step} → closed ≡ false → TakesFixed 0x012d refusal t to last → PointSays first count refusal t from last p false
+  pub going-point : {last : Step} → closed ≡ false → TakesFixed code-dash refusal t to last → PointSays first count refusal t from last p false
   going-point goes dash = record {
     closing = λ y. clash false y refl;
     going = λ y site ps n k. point-going l g site ps n k goes dash;

@@ -1,5 +1,5 @@
 -- One word of a location, in a report and in a forecast alike: what the location does with it is what the machine does. And the letter of a
--- side, takes-by-field by the word's code.
+-- side, known by the word's code.
 -- Assumes nothing.
 use mathlib.Core.Bool.{Bool, true, false, not}
 use mathlib.Core.List.{List, [], _∷_}
@@ -15,6 +15,7 @@ use Rattle.lists.proofs.Choice.{by, either-right, either-cases, pick-true, pick
 use Rattle.lists.proofs.Lists.{same-refl, same-is}
 use Rattle.figures.specs.Codes.{short, codeOf, FixedWord}
 use Rattle.figures.proofs.CodeLaws.{code-tells}
+use Rattle.vocabulary.specs.Codes.{code-cta, code-fir, code-of}
 use Rattle.vocabulary.proofs.FixedWords.{fixed-of, fixed-fir, fixed-cta}
 use Rattle.coordinates.specs.declared.Coordinate.{Coordinate}
 use Rattle.coordinates.specs.Coordinates.{Axis, northSouth, eastWest, coordinateOf, goodCoordinate}
@@ -23,7 +24,8 @@ use Rattle.message.specs.declared.Side.{Side}
 use Rattle.message.specs.Limits.{cta}
 use Rattle.grammar.specs.Numbers.{locationPart, followingPart, placeNumber, numberOf}
 use Rattle.grammar.specs.Placing.Placed.{on, there, past, nowhere}
-use Rattle.grammar.specs.Placing.{onIf, thereIf, sideWord, entireWord, placeStep}
+use Rattle.grammar.specs.Placing.{onIf, thereIf, sideWord, placeStep}
+use Rattle.message.specs.Locations.{entireWord}
 use Rattle.grammar.specs.Records.{bounded}
 use Rattle.grammar.specs.States.Move.{goes, dead}
 use Rattle.grammar.specs.States.Placing.{atLatitudeOf, atLatitudeBound, atAnd, atLongitudeOf, atLongitudeBound}
@@ -33,7 +35,7 @@ use Rattle.grammar.specs.States.{Site, Placing}
 use Rattle.grammar.specs.Steps.{goesIf, closingAt, after, stepAfter, settled, step}
 use Rattle.reader_sections.specs.declared.steps.Step.{Step}
 use Rattle.reader_sections.specs.Locations.{sideIn, SideSays}
-use Rattle.reader_sections.specs.Steps.{wordFrom, Leads, Stands, Before, Judged, Takes, TakesFixed}
+use Rattle.reader_sections.specs.Steps.{wordOn, wordFrom, Leads, Stands, Before, Judged, Takes, TakesFixed}
 use Rattle.reader_sections.proofs.Leads.{then, whether, nothing, takes, standing, past-leads}
 use Rattle.reader_sections.proofs.OneWord.{part-is, goes-word}
 use Rattle.reader_sections.proofs.RunsAt.{some-word}
@@ -111,7 +113,7 @@ module _ {A : Type 0} {read : List ℕ → A} {good : A → Bool} {refusal : ℕ
       h .says (atPlace site p) (λ (x : A). after site (e x)) (λ z. there-if-step site p _ (good v) (e v) (j z)) n
 
 -- `OF` and the coordinate of a bound
-module _ {refusal : ℕ} {t : List ℕ} {from mid to : Step} {value : Coordinate} (of : TakesFixed 0x014f46 refusal t from mid) (site : Site) (n : locationPart site ≡ refusal) where
+module _ {refusal : ℕ} {t : List ℕ} {from mid to : Step} {value : Coordinate} (of : TakesFixed code-of refusal t from mid) (site : Site) (n : locationPart site ≡ refusal) where
   pub latitude-bound : Takes (coordinateOf northSouth) (goodCoordinate northSouth) refusal t mid to value → (side : ℕ)
       → Leads (atPlace site (atLatitudeOf side)) t from to (atPlace site (atAnd (record { of = side; at = value })))
   unfolding placeStep
@@ -174,7 +176,7 @@ pub side-if : (a : Axis) (w : List ℕ) → 0 < a .plus → 0 < a .minus → (ne
 side-if a w p m next =
     rw (side-some a w p m) (by (sideWord a w) (λ y. rw (y)) (λ y. rw (y)))
 
-module _ {t : List ℕ} {from : Step} {code letter : ℕ} (f : Stands t from) (e : code ≡ codeOf (part (from .place) (from .end) t)) (a : Axis)
+module _ {t : List ℕ} {from : Step} {code letter : ℕ} (f : Stands t from) (e : code ≡ codeOf (wordOn t from)) (a : Axis)
     (s : SideSays code (a .plus) (a .minus) letter) (p : 0 < a .plus) (m : 0 < a .minus) where
   -- the letter as the value of a word: 0 is none
   pub takes-side : {to : Step} {refusal : ℕ} → Judged t from (not (eqb letter 0)) refusal to
@@ -205,8 +207,8 @@ module _ {t : List ℕ} {from : Step} {code letter : ℕ} (f : Stands t from) (e
       (on-step site q _ (j yes ∙ ap (λ (x : ℕ). on (next x)) (sym (letter-is z ∙ pick-true _ _ yes))))) past′
 
 -- the word after `ENTIRE`
-pub entire-cta : (closing : ℕ) → closing ≡ cta → FixedWord (entireWord closing) 0x01435441
+pub entire-cta : (closing : ℕ) → closing ≡ cta → FixedWord (entireWord closing) code-cta
 entire-cta closing e = rw (eq-eqb closing cta e) fixed-cta
 
-pub entire-fir : (closing : ℕ) → (closing ≡ cta → ⊥) → FixedWord (entireWord closing) 0x01464952
+pub entire-fir : (closing : ℕ) → (closing ≡ cta → ⊥) → FixedWord (entireWord closing) code-fir
 entire-fir closing n = rw (ne-eqb closing cta n) fixed-fir

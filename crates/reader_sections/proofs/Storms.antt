@@ -17,7 +17,7 @@ use Rattle.grammar.specs.States.State.{atForm, atStorm}
 use Rattle.grammar.specs.States.{ToArea}
 use Rattle.grammar.specs.Steps.{stormWords, stormOf, goodStorm, stepWeather, step}
 use Rattle.reader_sections.specs.declared.steps.Step.{Step}
-use Rattle.reader_sections.specs.Steps.{wordFrom, Leads, Stands, Before}
+use Rattle.reader_sections.specs.Steps.{wordOn, wordFrom, Leads, Stands, Before}
 use Rattle.reader_sections.proofs.Leads.{whether, nothing, standing, past-leads}
 use Rattle.reader_sections.proofs.OneWord.{part-is, goes-word}
 use Rattle.reader_sections.proofs.RunsAt.{some-word}
@@ -34,16 +34,16 @@ storm-none : goodStorm (stormOf []) ≡ false
 unfolding stormWords indexOf same
 storm-none = refl
 
-module _ {t : List ℕ} {from : Step} {code n : ℕ} {codes : List ℕ} (f : Stands t from) (e : code ≡ codeOf (part (from .place) (from .end) t))
+module _ {t : List ℕ} {from : Step} {code n : ℕ} {codes : List ℕ} (f : Stands t from) (e : code ≡ codeOf (wordOn t from))
     (i : n ≡ indexOf (eqb code) codes) (p : codes ≡ map codeOf stormWords) where
-  storm-place : n ≡ wordIn stormWords (part (from .place) (from .end) t)
-  storm-place = rw (i, p, e) (find-word stormWords (part (from .place) (from .end) t) storms-short)
+  storm-place : n ≡ wordIn stormWords (wordOn t from)
+  storm-place = rw (i, p, e) (find-word stormWords (wordOn t from) storms-short)
 
-  storm-number : n < 4 → stormOf (part (from .place) (from .end) t) ≡ n + 1
+  storm-number : n < 4 → stormOf (wordOn t from) ≡ n + 1
   storm-number l =
-      rw (lt-ltb (wordIn stormWords (part (from .place) (from .end) t)) (length stormWords) (omega (arith, storm-place, storms-count))) (omega (arith, storm-place))
+      rw (lt-ltb (wordIn stormWords (wordOn t from)) (length stormWords) (omega (arith, storm-place, storms-count))) (omega (arith, storm-place))
 
-  storm-good : n < 4 → goodStorm (stormOf (part (from .place) (from .end) t)) ≡ true
+  storm-good : n < 4 → goodStorm (stormOf (wordOn t from)) ≡ true
   storm-good l = rw (storm-number l) (both-true (le-leb 1 (n + 1) (omega arith)) (le-leb (n + 1) (1 + length stormWords - 1) (omega (arith, storms-count))))
 
   -- the word is a storm's
@@ -51,7 +51,7 @@ module _ {t : List ℕ} {from : Step} {code n : ℕ} {codes : List ℕ} (f : Sta
       → Leads (atForm o) t from to (atStorm o (n + 1))
   goes-storm l past o j = whether (from .number)
       (λ z.
-      let word : part (from .place) (from .end) t ≡ wordFrom t (from .place) = part-is (f .going z) in
+      let word : wordOn t from ≡ wordFrom t (from .place) = part-is (f .going z) in
       let good : goodStorm (stormOf (wordFrom t (from .place))) ≡ true = rw word at (storm-good l) in
       past-leads f z (goes-word (standing f) (f .going z) (atForm o) (atStorm o (n + 1)) (some-word (λ (x : List ℕ). goodStorm (stormOf x)) (wordFrom t (from .place)) storm-none good)
       (j z ∙ rw (good, ap stormOf (sym word) ∙ storm-number l))) past)
@@ -61,4 +61,4 @@ module _ {t : List ℕ} {from : Step} {code n : ℕ} {codes : List ℕ} (f : Sta
   pub no-storm : from .number ≡ 0 → 4 ≤ n → goodStorm (stormOf (wordFrom t (from .place))) ≡ false
   no-storm z l =
       ap (λ (u : List ℕ). goodStorm (stormOf u)) (sym (part-is (f .going z)))
-      ∙ rw (le-ltb (wordIn stormWords (part (from .place) (from .end) t)) (length stormWords) (omega (arith, storm-place, storms-count)))
+      ∙ rw (le-ltb (wordIn stormWords (wordOn t from)) (length stormWords) (omega (arith, storm-place, storms-count)))

@@ -1,6 +1,6 @@
 pub mod Steps
-pub mod Heads
-pub mod Naming
+pub mod Openings
+pub mod Names
 pub mod Forms
 pub mod Phenomena
 pub mod Locations

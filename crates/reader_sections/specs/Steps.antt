@@ -1,4 +1,4 @@
--- A section leads from one step to another. A step is a number and a place: number 0 says that the run of the grammar's machine goes on from that
+-- A section leads from one step to another. A step is a number, a place and an end: number 0 says that the run of the grammar's machine goes on from that
 -- place, any other number that the word at that place was refused. A section's contract is then an equation of runs at two steps, and a step once
 -- refused stays refused.
 -- Assumes nothing.
@@ -40,6 +40,10 @@ runOn s t p = pick (eqb (p .number) 0) (runAt s t (p .place)) (refused (p .numbe
 -- the run is over: the record is accepted, or the word at that place is refused by that number
 abbrev pub concluded : ℕ → ℕ → Record → Ran
 concluded number place r = pick (eqb number 0) (accepted r) (refused number place)
+
+-- the word at a step: that from its place to its end
+abbrev pub wordOn : List ℕ → Step → List ℕ
+wordOn t p = part (p .place) (p .end) t
 
 -- from one step in a state to another in the next
 pub record Leads (s : State) (t : List ℕ) (from to : Step) (next : State) : Type 0 where

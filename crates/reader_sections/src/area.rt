@@ -1,5 +1,5 @@
 // Area: four letters, a name, then the closing word.
-ghost use Rattle.reader_sections.specs.Heads.{AreaSays};
+ghost use Rattle.reader_sections.specs.Openings.{AreaSays};
 ghost use Rattle.reader_sections.specs.Steps.{Stands};
 use crate::name::read_name;
 use crate::parts;

@@ -34,10 +34,10 @@ fn read_moving(text: &[u8], from: Step) -> EndingRead
     ensures { λ r. ⌜ MovingSays (now (text .entry)) from (r .step) (r .ending) (r .forecast) ⌝ }
 {
     let direction = compass_at(text, from, parts::ENDING);
-    let fast = speed_at(text, direction.step, parts::ENDING);
-    let change = intensity_at(text, fast.step, parts::ENDING);
+    let speeding = speed_at(text, direction.step, parts::ENDING);
+    let change = intensity_at(text, speeding.step, parts::ENDING);
     let step = change.step;
-    let speed = fast.speed;
+    let speed = speeding.speed;
     EndingRead {
         step,
         ending: Ending::Moving(direction.compass, speed, change.intensity),

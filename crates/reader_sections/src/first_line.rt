@@ -1,5 +1,5 @@
 // First line: four letters (unit), SIGMET, sequence, VALID, group/group, four letters and a hyphen (office).
-ghost use Rattle.reader_sections.specs.Heads.{LineSays};
+ghost use Rattle.reader_sections.specs.Openings.{LineSays};
 ghost use Rattle.reader_sections.specs.Steps.{Stands};
 use crate::parts;
 use crate::required_words::letters_at;

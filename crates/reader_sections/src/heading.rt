@@ -1,5 +1,5 @@
 // Heading: the designator, the centre and the time of sending, then perhaps a correction.
-ghost use Rattle.reader_sections.specs.Heads.{CorrectionSays, HeadingSays};
+ghost use Rattle.reader_sections.specs.Openings.{CorrectionSays, HeadingSays};
 ghost use Rattle.reader_sections.specs.Steps.{Stands};
 use crate::parts;
 use crate::required_words::designator_at;

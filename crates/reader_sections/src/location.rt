@@ -27,15 +27,28 @@ pub(crate) struct LocationRead {
     pub extent: Extent,
 }
 
-// The letter in front of OF, where the word is one of the two; 0 where it is neither.
-fn side_letter(code: u64, plus: u8, minus: u8) -> u8
-    ensures { λ r. ⌜ SideSays code plus minus r ⌝ }
+// The letter before OF where the word is N or S; 0 where it is neither.
+fn latitude_side(code: u64) -> u8
+    ensures { λ r. ⌜ SideSays code 78 83 r ⌝ }
 {
-    if code == 256 + (plus as u64) {
-        return plus;
+    if code == vocabulary::N {
+        return b'N';
     }
-    if code == 256 + (minus as u64) {
-        return minus;
+    if code == vocabulary::S {
+        return b'S';
+    }
+    0
+}
+
+// The same of E and W.
+fn longitude_side(code: u64) -> u8
+    ensures { λ r. ⌜ SideSays code 69 87 r ⌝ }
+{
+    if code == vocabulary::E {
+        return b'E';
+    }
+    if code == vocabulary::W {
+        return b'W';
     }
     0
 }
@@ -54,7 +67,7 @@ fn bounded(latitude: Side, longitude: Side) -> Extent
 }
 
 // OF and a longitude, after `E` or `W`; a latitude bound may stand before it.
-fn read_east(text: &[u8], from: Step, north: Side, side: u8, refusal: u8) -> LocationRead
+fn read_longitude_bound(text: &[u8], from: Step, north: Side, side: u8, refusal: u8) -> LocationRead
     requires { ⌜ (Stands (now text) from) × (0 < refusal) ⌝ }
     ensures { λ r. ⌜ LocatedSays (atLongitudeOf north side) refusal (now (text .entry)) from (r .step) (r .extent) ⌝ }
 {
@@ -68,7 +81,7 @@ fn read_east(text: &[u8], from: Step, north: Side, side: u8, refusal: u8) -> Loc
 }
 
 // After a latitude bound: perhaps AND and a longitude bound.
-fn read_after_north(text: &[u8], from: Step, north: Side, refusal: u8) -> LocationRead
+fn read_second_bound(text: &[u8], from: Step, north: Side, refusal: u8) -> LocationRead
     requires { ⌜ (Stands (now text) from) × (0 < refusal) ⌝ }
     ensures { λ r. ⌜ LocatedSays (atAnd north) refusal (now (text .entry)) from (r .step) (r .extent) ⌝ }
 {
@@ -79,13 +92,13 @@ fn read_after_north(text: &[u8], from: Step, north: Side, refusal: u8) -> Locati
         return LocationRead { step, extent };
     }
     let past = and.step;
-    let side = side_letter(code_of(text, past), b'E', b'W');
+    let side = longitude_side(code_of(text, past));
     let step = judged(text, past, side != 0, refusal);
-    read_east(text, step, north, side, refusal)
+    read_longitude_bound(text, step, north, side, refusal)
 }
 
 // OF and a latitude, after `N` or `S`, and what may follow.
-fn read_north(text: &[u8], from: Step, side: u8, refusal: u8) -> LocationRead
+fn read_latitude_bound(text: &[u8], from: Step, side: u8, refusal: u8) -> LocationRead
     requires { ⌜ (Stands (now text) from) × (0 < refusal) ⌝ }
     ensures { λ r. ⌜ LocatedSays (atLatitudeOf side) refusal (now (text .entry)) from (r .step) (r .extent) ⌝ }
 {
@@ -93,7 +106,7 @@ fn read_north(text: &[u8], from: Step, side: u8, refusal: u8) -> LocationRead
     let parallel = latitude_at(text, of, refusal);
     let at = parallel.coordinate;
     let north = Side { of: side, at };
-    read_after_north(text, parallel.step, north, refusal)
+    read_second_bound(text, parallel.step, north, refusal)
 }
 
 // FIR, or CTA in a CTA, after ENTIRE.
@@ -122,13 +135,13 @@ pub(crate) fn read_location(text: &[u8], from: Step, closing: u8, refusal: u8) -
     ensures { λ r. ⌜ LocatedInSays closing atLocation refusal (now (text .entry)) from (r .step) (r .extent) ⌝ }
 {
     let code = code_of(text, from);
-    let north = side_letter(code, b'N', b'S');
+    let north = latitude_side(code);
     if north != 0 {
-        return read_north(text, step_at(text, from.end), north, refusal);
+        return read_latitude_bound(text, step_at(text, from.end), north, refusal);
     }
-    let east = side_letter(code, b'E', b'W');
+    let east = longitude_side(code);
     if east != 0 {
-        return read_east(text, step_at(text, from.end), NO_SIDE, east, refusal);
+        return read_longitude_bound(text, step_at(text, from.end), NO_SIDE, east, refusal);
     }
     if code == vocabulary::ENTIRE {
         return read_entire(text, step_at(text, from.end), closing, refusal);

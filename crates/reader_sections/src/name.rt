@@ -5,7 +5,8 @@ ghost use mathlib.Core.Bool.{true};
 ghost use Prim.Native.Nat.{_+_, _<_, _≤_};
 ghost use lib.ListN.{length, take, drop};
 ghost use Rattle.message.specs.Limits.{nameBytes};
-ghost use Rattle.reader_sections.specs.Naming.{wordOn, BelongsSays, FirstSays, GrownSays, NameSays};
+ghost use Rattle.reader_sections.specs.Steps.{wordOn};
+ghost use Rattle.reader_sections.specs.Names.{BelongsSays, FirstSays, GrownSays, NameSays};
 ghost use Rattle.reader_sections.specs.Steps.{Stands};
 use crate::steps::Step;
 use crate::steps::judged;
@@ -48,7 +49,7 @@ fn belongs(text: &[u8], from: Step, used: usize, mountain: bool, limit: usize) -
     in_name(&text[start..end], mountain)
 }
 
-// The name of the word at the step alone, if a name begins with it. If none does, the word will be refused, and what is kept of it says nothing.
+// The name of the word at the step alone; no name where the word begins none, and is refused.
 fn first_name(text: &[u8], from: Step, begins: bool) -> Name
     requires { ⌜ (Stands (now text) from) × (begins ≡ true → length (wordOn (now text) from) ≤ nameBytes) ⌝ }
     ensures { λ r. ⌜ FirstSays (now (text .entry)) from begins r ⌝ }

@@ -1,5 +1,5 @@
 // What every message begins with: heading, first line and area.
-ghost use Rattle.reader_sections.specs.Heads.{OpeningSays};
+ghost use Rattle.reader_sections.specs.Openings.{OpeningSays};
 ghost use Rattle.reader_sections.specs.Steps.{Stands};
 use crate::area::read_area;
 use crate::first_line::read_line;
@@ -22,11 +22,11 @@ pub(crate) fn read_opening(text: &[u8], from: Step) -> OpeningRead
 {
     let headed = read_heading(text, from);
     let lined = read_line(text, headed.step);
-    let bounded = read_area(text, lined.step);
-    let step = bounded.step;
+    let placed = read_area(text, lined.step);
+    let step = placed.step;
     let heading = headed.heading;
     let line = lined.line;
-    let area = bounded.area;
+    let area = placed.area;
     OpeningRead {
         step,
         heading,

@@ -45,13 +45,13 @@ pub(crate) fn read_report(text: &[u8], from: Step, kind: u8, closing: u8, until:
     let what = read_phenomenon(text, from, kind);
     let seen = read_observation(text, what.step);
     let located = read_location(text, seen.step, closing, parts::LOCATION);
-    let high = read_level(text, located.step);
-    let ended = read_ending(text, high.step, kind, closing, until);
+    let levelled = read_level(text, located.step);
+    let ended = read_ending(text, levelled.step, kind, closing, until);
     let step = concluding(ended.step);
     let volcano = what.volcano;
     let observation = seen.observation;
     let extent = located.extent;
-    let level = high.level;
+    let level = levelled.level;
     let ending = ended.ending;
     let forecast = ended.forecast;
     ReportRead {

@@ -5,7 +5,7 @@ ghost use Prim.Native.Nat.{_≤_, _<_};
 ghost use lib.ListN.{length};
 ghost use Rattle.lists.specs.Lists.{part};
 ghost use Rattle.figures.specs.Codes.{codeOf};
-ghost use Rattle.reader_sections.specs.Steps.{WordAt, Stands, Before, Judged, TakesFixed, TakesLong, MayTake, Closes};
+ghost use Rattle.reader_sections.specs.Steps.{wordOn, WordAt, Stands, Before, Judged, TakesFixed, TakesLong, MayTake, Closes};
 use crate::parts;
 use figures::code;
 use vocabulary::same_word;
@@ -26,14 +26,14 @@ pub(crate) struct PerhapsRead {
 }
 
 // The next word from a place on, within the text.
-pub(crate) fn span_at(text: &[u8], at: usize) -> Span
+fn span_at(text: &[u8], at: usize) -> Span
     requires { ⌜ at ≤ length (now text) ⌝ }
     ensures { λ r. ⌜ WordAt (now (text .entry)) at (r .start) (r .end) ⌝ }
 {
     word_at(text, at)
 }
 
-// The step before it.
+// The step before the next word from a place on.
 pub(crate) fn step_at(text: &[u8], at: usize) -> Step
     requires { ⌜ at ≤ length (now text) ⌝ }
     ensures { λ r. ⌜ Before (now (text .entry)) at r ⌝ }
@@ -64,15 +64,17 @@ pub(crate) fn judged(text: &[u8], from: Step, good: bool, refusal: u8) -> Step
     }
 }
 
+// The code of the word at a step.
 pub(crate) fn code_of(text: &[u8], from: Step) -> u64
     requires { ⌜ Stands (now text) from ⌝ }
-    ensures { λ r. ⌜ r ≡ codeOf (part (from .place) (from .end) (now (text .entry))) ⌝ }
+    ensures { λ r. ⌜ r ≡ codeOf (wordOn (now (text .entry)) from) ⌝ }
 {
     let start = from.place;
     let end = from.end;
     code(&text[start..end])
 }
 
+// A fixed word that has to come.
 pub(crate) fn fixed_at(text: &[u8], from: Step, wanted: u64, refusal: u8) -> Step
     requires { ⌜ (Stands (now text) from) × (0 < refusal) ⌝ }
     ensures { λ r. ⌜ TakesFixed wanted refusal (now (text .entry)) from r ⌝ }
@@ -81,6 +83,7 @@ pub(crate) fn fixed_at(text: &[u8], from: Step, wanted: u64, refusal: u8) -> Ste
     judged(text, from, code == wanted, refusal)
 }
 
+// A fixed word that may be left out.
 pub(crate) fn perhaps_at(text: &[u8], from: Step, wanted: u64) -> PerhapsRead
     requires { ⌜ Stands (now text) from ⌝ }
     ensures { λ r. ⌜ MayTake wanted (now (text .entry)) from (r .found) (r .step) ⌝ }
@@ -107,7 +110,7 @@ pub(crate) fn long_at(text: &[u8], from: Step, wanted: &[u8], refusal: u8) -> St
     judged(text, from, found, refusal)
 }
 
-// The `=`.
+// After the last part only the `=` may come, the empty word: a word is refused by 12, and the whole answers number and place 0.
 pub(crate) fn concluding(from: Step) -> Step
     ensures { λ r. ⌜ Closes from r ⌝ }
 {

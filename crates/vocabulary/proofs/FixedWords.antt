@@ -5,171 +5,172 @@ use Rattle.lists.specs.Base.{worthAfter}
 use Rattle.lists.specs.Lists.{allOf, same}
 use Rattle.lists.specs.Text.{bytes}
 use Rattle.figures.specs.Codes.{codeOf, behindOne, FixedWord}
+use Rattle.vocabulary.specs.Codes.{code-sigmet, code-valid, code-fir, code-cta, code-test, code-test-stop, code-this, code-is, code-a, code-sigmet-comma, code-please, code-cnl, code-ts, code-tsgr, code-sev, code-turb, code-ice, code-freezing-rain, code-mtw, code-hvy, code-ds, code-ss, code-rdoact, code-cld, code-va, code-mt, code-psn, code-obs, code-fcst, code-at, code-of, code-and, code-wi, code-dash, code-entire, code-top, code-abv, code-fl, code-surface, code-ft, code-mov, code-stnr}
 
-pub fixed-sigmet : FixedWord (bytes "SIGMET") 0x015349474d4554
+pub fixed-sigmet : FixedWord (bytes "SIGMET") code-sigmet
 unfolding codeOf behindOne allOf worthAfter same
 fixed-sigmet = record { is-short = refl; has = refl; some = refl; spelled = refl }
 
-pub fixed-valid : FixedWord (bytes "VALID") 0x0156414c4944
+pub fixed-valid : FixedWord (bytes "VALID") code-valid
 unfolding codeOf behindOne allOf worthAfter same
 fixed-valid = record { is-short = refl; has = refl; some = refl; spelled = refl }
 
-pub fixed-fir : FixedWord (bytes "FIR") 0x01464952
+pub fixed-fir : FixedWord (bytes "FIR") code-fir
 unfolding codeOf behindOne allOf worthAfter same
 fixed-fir = record { is-short = refl; has = refl; some = refl; spelled = refl }
 
-pub fixed-cta : FixedWord (bytes "CTA") 0x01435441
+pub fixed-cta : FixedWord (bytes "CTA") code-cta
 unfolding codeOf behindOne allOf worthAfter same
 fixed-cta = record { is-short = refl; has = refl; some = refl; spelled = refl }
 
-pub fixed-test : FixedWord (bytes "TEST") 0x0154455354
+pub fixed-test : FixedWord (bytes "TEST") code-test
 unfolding codeOf behindOne allOf worthAfter same
 fixed-test = record { is-short = refl; has = refl; some = refl; spelled = refl }
 
-pub fixed-test-stop : FixedWord (bytes "TEST.") 0x01544553542e
+pub fixed-test-stop : FixedWord (bytes "TEST.") code-test-stop
 unfolding codeOf behindOne allOf worthAfter same
 fixed-test-stop = record { is-short = refl; has = refl; some = refl; spelled = refl }
 
-pub fixed-this : FixedWord (bytes "THIS") 0x0154484953
+pub fixed-this : FixedWord (bytes "THIS") code-this
 unfolding codeOf behindOne allOf worthAfter same
 fixed-this = record { is-short = refl; has = refl; some = refl; spelled = refl }
 
-pub fixed-is : FixedWord (bytes "IS") 0x014953
+pub fixed-is : FixedWord (bytes "IS") code-is
 unfolding codeOf behindOne allOf worthAfter same
 fixed-is = record { is-short = refl; has = refl; some = refl; spelled = refl }
 
-pub fixed-a : FixedWord (bytes "A") 0x0141
+pub fixed-a : FixedWord (bytes "A") code-a
 unfolding codeOf behindOne allOf worthAfter same
 fixed-a = record { is-short = refl; has = refl; some = refl; spelled = refl }
 
-pub fixed-sigmet-comma : FixedWord (bytes "SIGMET,") 0x015349474d45542c
+pub fixed-sigmet-comma : FixedWord (bytes "SIGMET,") code-sigmet-comma
 unfolding codeOf behindOne allOf worthAfter same
 fixed-sigmet-comma = record { is-short = refl; has = refl; some = refl; spelled = refl }
 
-pub fixed-please : FixedWord (bytes "PLEASE") 0x01504c45415345
+pub fixed-please : FixedWord (bytes "PLEASE") code-please
 unfolding codeOf behindOne allOf worthAfter same
 fixed-please = record { is-short = refl; has = refl; some = refl; spelled = refl }
 
-pub fixed-cnl : FixedWord (bytes "CNL") 0x01434e4c
+pub fixed-cnl : FixedWord (bytes "CNL") code-cnl
 unfolding codeOf behindOne allOf worthAfter same
 fixed-cnl = record { is-short = refl; has = refl; some = refl; spelled = refl }
 
-pub fixed-ts : FixedWord (bytes "TS") 0x015453
+pub fixed-ts : FixedWord (bytes "TS") code-ts
 unfolding codeOf behindOne allOf worthAfter same
 fixed-ts = record { is-short = refl; has = refl; some = refl; spelled = refl }
 
-pub fixed-tsgr : FixedWord (bytes "TSGR") 0x0154534752
+pub fixed-tsgr : FixedWord (bytes "TSGR") code-tsgr
 unfolding codeOf behindOne allOf worthAfter same
 fixed-tsgr = record { is-short = refl; has = refl; some = refl; spelled = refl }
 
-pub fixed-sev : FixedWord (bytes "SEV") 0x01534556
+pub fixed-sev : FixedWord (bytes "SEV") code-sev
 unfolding codeOf behindOne allOf worthAfter same
 fixed-sev = record { is-short = refl; has = refl; some = refl; spelled = refl }
 
-pub fixed-turb : FixedWord (bytes "TURB") 0x0154555242
+pub fixed-turb : FixedWord (bytes "TURB") code-turb
 unfolding codeOf behindOne allOf worthAfter same
 fixed-turb = record { is-short = refl; has = refl; some = refl; spelled = refl }
 
-pub fixed-ice : FixedWord (bytes "ICE") 0x01494345
+pub fixed-ice : FixedWord (bytes "ICE") code-ice
 unfolding codeOf behindOne allOf worthAfter same
 fixed-ice = record { is-short = refl; has = refl; some = refl; spelled = refl }
 
-pub fixed-freezing-rain : FixedWord (bytes "(FZRA)") 0x0128465a524129
+pub fixed-freezing-rain : FixedWord (bytes "(FZRA)") code-freezing-rain
 unfolding codeOf behindOne allOf worthAfter same
 fixed-freezing-rain = record { is-short = refl; has = refl; some = refl; spelled = refl }
 
-pub fixed-mtw : FixedWord (bytes "MTW") 0x014d5457
+pub fixed-mtw : FixedWord (bytes "MTW") code-mtw
 unfolding codeOf behindOne allOf worthAfter same
 fixed-mtw = record { is-short = refl; has = refl; some = refl; spelled = refl }
 
-pub fixed-hvy : FixedWord (bytes "HVY") 0x01485659
+pub fixed-hvy : FixedWord (bytes "HVY") code-hvy
 unfolding codeOf behindOne allOf worthAfter same
 fixed-hvy = record { is-short = refl; has = refl; some = refl; spelled = refl }
 
-pub fixed-ds : FixedWord (bytes "DS") 0x014453
+pub fixed-ds : FixedWord (bytes "DS") code-ds
 unfolding codeOf behindOne allOf worthAfter same
 fixed-ds = record { is-short = refl; has = refl; some = refl; spelled = refl }
 
-pub fixed-ss : FixedWord (bytes "SS") 0x015353
+pub fixed-ss : FixedWord (bytes "SS") code-ss
 unfolding codeOf behindOne allOf worthAfter same
 fixed-ss = record { is-short = refl; has = refl; some = refl; spelled = refl }
 
-pub fixed-rdoact : FixedWord (bytes "RDOACT") 0x0152444f414354
+pub fixed-rdoact : FixedWord (bytes "RDOACT") code-rdoact
 unfolding codeOf behindOne allOf worthAfter same
 fixed-rdoact = record { is-short = refl; has = refl; some = refl; spelled = refl }
 
-pub fixed-cld : FixedWord (bytes "CLD") 0x01434c44
+pub fixed-cld : FixedWord (bytes "CLD") code-cld
 unfolding codeOf behindOne allOf worthAfter same
 fixed-cld = record { is-short = refl; has = refl; some = refl; spelled = refl }
 
-pub fixed-va : FixedWord (bytes "VA") 0x015641
+pub fixed-va : FixedWord (bytes "VA") code-va
 unfolding codeOf behindOne allOf worthAfter same
 fixed-va = record { is-short = refl; has = refl; some = refl; spelled = refl }
 
-pub fixed-mt : FixedWord (bytes "MT") 0x014d54
+pub fixed-mt : FixedWord (bytes "MT") code-mt
 unfolding codeOf behindOne allOf worthAfter same
 fixed-mt = record { is-short = refl; has = refl; some = refl; spelled = refl }
 
-pub fixed-psn : FixedWord (bytes "PSN") 0x0150534e
+pub fixed-psn : FixedWord (bytes "PSN") code-psn
 unfolding codeOf behindOne allOf worthAfter same
 fixed-psn = record { is-short = refl; has = refl; some = refl; spelled = refl }
 
-pub fixed-obs : FixedWord (bytes "OBS") 0x014f4253
+pub fixed-obs : FixedWord (bytes "OBS") code-obs
 unfolding codeOf behindOne allOf worthAfter same
 fixed-obs = record { is-short = refl; has = refl; some = refl; spelled = refl }
 
-pub fixed-fcst : FixedWord (bytes "FCST") 0x0146435354
+pub fixed-fcst : FixedWord (bytes "FCST") code-fcst
 unfolding codeOf behindOne allOf worthAfter same
 fixed-fcst = record { is-short = refl; has = refl; some = refl; spelled = refl }
 
-pub fixed-at : FixedWord (bytes "AT") 0x014154
+pub fixed-at : FixedWord (bytes "AT") code-at
 unfolding codeOf behindOne allOf worthAfter same
 fixed-at = record { is-short = refl; has = refl; some = refl; spelled = refl }
 
-pub fixed-of : FixedWord (bytes "OF") 0x014f46
+pub fixed-of : FixedWord (bytes "OF") code-of
 unfolding codeOf behindOne allOf worthAfter same
 fixed-of = record { is-short = refl; has = refl; some = refl; spelled = refl }
 
-pub fixed-and : FixedWord (bytes "AND") 0x01414e44
+pub fixed-and : FixedWord (bytes "AND") code-and
 unfolding codeOf behindOne allOf worthAfter same
 fixed-and = record { is-short = refl; has = refl; some = refl; spelled = refl }
 
-pub fixed-wi : FixedWord (bytes "WI") 0x015749
+pub fixed-wi : FixedWord (bytes "WI") code-wi
 unfolding codeOf behindOne allOf worthAfter same
 fixed-wi = record { is-short = refl; has = refl; some = refl; spelled = refl }
 
-pub fixed-dash : FixedWord (bytes "-") 0x012d
+pub fixed-dash : FixedWord (bytes "-") code-dash
 unfolding codeOf behindOne allOf worthAfter same
 fixed-dash = record { is-short = refl; has = refl; some = refl; spelled = refl }
 
-pub fixed-entire : FixedWord (bytes "ENTIRE") 0x01454e54495245
+pub fixed-entire : FixedWord (bytes "ENTIRE") code-entire
 unfolding codeOf behindOne allOf worthAfter same
 fixed-entire = record { is-short = refl; has = refl; some = refl; spelled = refl }
 
-pub fixed-top : FixedWord (bytes "TOP") 0x01544f50
+pub fixed-top : FixedWord (bytes "TOP") code-top
 unfolding codeOf behindOne allOf worthAfter same
 fixed-top = record { is-short = refl; has = refl; some = refl; spelled = refl }
 
-pub fixed-abv : FixedWord (bytes "ABV") 0x01414256
+pub fixed-abv : FixedWord (bytes "ABV") code-abv
 unfolding codeOf behindOne allOf worthAfter same
 fixed-abv = record { is-short = refl; has = refl; some = refl; spelled = refl }
 
-pub fixed-fl : FixedWord (bytes "FL") 0x01464c
+pub fixed-fl : FixedWord (bytes "FL") code-fl
 unfolding codeOf behindOne allOf worthAfter same
 fixed-fl = record { is-short = refl; has = refl; some = refl; spelled = refl }
 
-pub fixed-surface : FixedWord (bytes "SFC/") 0x015346432f
+pub fixed-surface : FixedWord (bytes "SFC/") code-surface
 unfolding codeOf behindOne allOf worthAfter same
 fixed-surface = record { is-short = refl; has = refl; some = refl; spelled = refl }
 
-pub fixed-ft : FixedWord (bytes "FT") 0x014654
+pub fixed-ft : FixedWord (bytes "FT") code-ft
 unfolding codeOf behindOne allOf worthAfter same
 fixed-ft = record { is-short = refl; has = refl; some = refl; spelled = refl }
 
-pub fixed-mov : FixedWord (bytes "MOV") 0x014d4f56
+pub fixed-mov : FixedWord (bytes "MOV") code-mov
 unfolding codeOf behindOne allOf worthAfter same
 fixed-mov = record { is-short = refl; has = refl; some = refl; spelled = refl }
 
-pub fixed-stnr : FixedWord (bytes "STNR") 0x0153544e52
+pub fixed-stnr : FixedWord (bytes "STNR") code-stnr
 unfolding codeOf behindOne allOf worthAfter same
 fixed-stnr = record { is-short = refl; has = refl; some = refl; spelled = refl }

@@ -157,15 +157,15 @@ same-words-is (x ∷ xs) (y ∷ ys) t =
     let rest : xs ≡ ys = same-words-is xs ys (both-right (same x y) (sameWords xs ys) t) in
     cc
 
-abbrev toldWords : ℕ → List (List ℕ)
-toldWords n = firstWord n ∷ secondWord n ∷ pick (eqb n freezingRain) (bytes "(FZRA)" ∷ []) []
+abbrev tableWords : ℕ → List (List ℕ)
+tableWords n = firstWord n ∷ secondWord n ∷ pick (eqb n freezingRain) (bytes "(FZRA)" ∷ []) []
 
 -- a phenomenon has two words, and `SEV ICE (FZRA)` a third
-named-words : (n : ℕ) → 1 ≤ n → n ≤ eruption → namedWords n ≡ toldWords n
+named-words : (n : ℕ) → 1 ≤ n → n ≤ eruption → namedWords n ≡ tableWords n
 unfolding phenomena same
 named-words n low high =
-    same-words-is (namedWords n) (toldWords n)
-    (stretched (λ (k : ℕ). sameWords (namedWords k) (toldWords k)) 1 17 n refl low (omega arith))
+    same-words-is (namedWords n) (tableWords n)
+    (stretched (λ (k : ℕ). sameWords (namedWords k) (tableWords k)) 1 17 n refl low (omega arith))
 
 -- its words by the names under which they were put
 pub two-named : (n : ℕ) {v w : List ℕ} {at m o : ℕ} {page p q : List ℕ} → 1 ≤ n → n ≤ eruption → (n ≡ freezingRain → ⊥) → v ≡ firstWord n

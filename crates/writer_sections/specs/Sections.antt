@@ -93,10 +93,6 @@ axisOf width = record { width = width; greatest = 0; plus = 0; minus = 0 }
 abbrev pub outlineWords : ℕ → List Point → List (List ℕ)
 outlineWords n points = bytes "WI" ∷ joined (take n points)
 
--- what the entire area is called, by the area's closing word
-abbrev pub entireWord : ℕ → List ℕ
-entireWord closing = pick (eqb closing cta) (bytes "CTA") (bytes "FIR")
-
 -- `FLnnn`
 abbrev pub flightWord : ℕ → List ℕ
 flightWord n = bytes "FL" ++ inFigures 3 n

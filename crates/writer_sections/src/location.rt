@@ -8,10 +8,12 @@ ghost use Rattle.coordinates.specs.Coordinates.{spellCoordinate};
 ghost use Rattle.coordinates.specs.Points.{pointWords};
 ghost use Rattle.figures.specs.Codes.{spellCode};
 ghost use Rattle.message.specs.Limits.{mostPoints};
-ghost use Rattle.message.specs.Locations.{goodBound, goodExtent, sideWords, boundWords, joined, entireWords, extentWords};
+ghost use Rattle.message.specs.Locations.{goodBound, goodExtent, sideWords, boundWords, joined, entireWords, extentWords, entireWord};
 ghost use Rattle.pens.specs.Pens.{Words};
-ghost use Rattle.writer_sections.specs.Sections.{axisOf, entireWord, outlineWords};
+ghost use Rattle.writer_sections.specs.Sections.{axisOf, outlineWords};
 use coordinates::Coordinate;
+use coordinates::LATITUDE_FIGURES;
+use coordinates::LONGITUDE_FIGURES;
 use coordinates::Point;
 use message::Bound;
 use message::Extent;
@@ -22,11 +24,6 @@ use names::CLOSED_BY_CTA;
 use pens::put;
 use pens::put_figures;
 use pens::put_fixed;
-
-// How many figures the degrees of a latitude and of a longitude have.
-const LATITUDE_FIGURES: u8 = 2;
-
-const LONGITUDE_FIGURES: u8 = 3;
 
 // A coordinate whose degrees have so many figures. Its minutes are put where they were written: where it has more figures than that.
 fn put_coordinate(out: &mut [u8], at: usize, c: Coordinate, figures: u8) -> usize

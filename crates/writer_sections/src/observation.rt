@@ -7,6 +7,7 @@ ghost use Rattle.message.specs.Reports.{observationWords};
 ghost use Rattle.pens.specs.Pens.{Words};
 ghost use Rattle.writer_sections.specs.Sections.{observedWord};
 use groups::Time;
+use message::OBSERVED;
 use message::Observation;
 use pens::put;
 use pens::put_figures;
@@ -26,7 +27,7 @@ fn observed_word(n: u8) -> u64
     ensures { λ r. ⌜ spellCode r ≡ observedWord n ⌝ }
 {
     match n {
-        1 => vocabulary::OBS,
+        OBSERVED => vocabulary::OBS,
         _ => vocabulary::FCST,
     }
 }

@@ -9,8 +9,8 @@ use borrow.Author.Tests.{le-leb, lt-leb, ne-eqb, not-true, not-false}
 use Rattle.lists.specs.Base.{worth}
 use Rattle.words.specs.Bytes.{letter}
 use Rattle.figures.specs.Letters.{lettersOf}
-use Rattle.figures.proofs.Reading.{Reading, begins, fits, goes, barred, passed, told}
-use Rattle.figures.proofs.LetterLaws.{letter-small, letters-barred, letters-told}
+use Rattle.figures.proofs.Reading.{Reading, begins, fits, goes, barred, passed, whole}
+use Rattle.figures.proofs.LetterLaws.{letter-small, letters-barred, letters-are}
 use Rattle.figures.proofs.letters.Statement.{statement}
 use Rattle.figures.proofs.letters.Tie as tie
 use Rattle.figures.proofs.letters.Reads as reads
@@ -70,8 +70,8 @@ loop-again c = goes 256 0 4 letter _ _ (c .before .before .before .before .loop 
 
 returns-4 : tie.Need-returns-4 Inv-loop μ-loop
 returns-4 c =
-    let m : c .before .loop .n ≡ worth 256 (c .before .before .before .before .before .args .w .now) = told 256 0 4 letter _ _ (c .before .loop .inv) (omega arith) refl in
-    letters-told (c .before .before .before .before .before .args .k) (c .before .before .before .before .before .args .w .now) (omega arith) (omega arith) (passed 256 0 4 letter _ _ (c .before .loop .inv) (omega arith)) m
+    let m : c .before .loop .n ≡ worth 256 (c .before .before .before .before .before .args .w .now) = whole 256 0 4 letter _ _ (c .before .loop .inv) (omega arith) refl in
+    letters-are (c .before .before .before .before .before .args .k) (c .before .before .before .before .before .args .w .now) (omega arith) (omega arith) (passed 256 0 4 letter _ _ (c .before .loop .inv) (omega arith)) m
 
 pub letters-spec : {M : Type 1} → statement M
 letters-spec =

@@ -15,7 +15,7 @@ use Rattle.grammar.specs.Runs.{runAt}
 use Rattle.grammar.specs.States.State.{atDesignator}
 use Rattle.reader_sections.specs.declared.steps.Step.{Step}
 use Rattle.reader_sections.specs.Bodies.{BodySays}
-use Rattle.reader_sections.specs.Heads.{OpeningSays}
+use Rattle.reader_sections.specs.Openings.{OpeningSays}
 use Rattle.reader_sections.specs.Steps.{Before}
 use Rattle.reader_sections.proofs.Leads.{at-last, replied, answered, accepts}
 use Rattle.reader_sections.proofs.read_text.Statement.{statement}

@@ -13,15 +13,15 @@ use Rattle.writer.proofs.write.Statement.{statement}
 use Rattle.writer.proofs.write.Tie as tie
 
 -- past the first test the record is good; the count is the text's length, and so many bytes of the page are the text
-told-good : (c : tie.Else1) → good (c .before .before .before .before .before .args .message) ≡ true
-told-good c = good-here (c .before .before .before .before .before .args .message) (c .before .before .put-text .ensures) (c .if1 .left)
+known-good : (c : tie.Else1) → good (c .before .before .before .before .before .args .message) ≡ true
+known-good c = good-here (c .before .before .before .before .before .args .message) (c .before .before .put-text .ensures) (c .if1 .left)
 
 counted : (c : tie.Else1) → c .before .before .put-text .result ≡ length (textOf (c .before .before .before .before .before .args .message))
-counted c = page-count (c .before .before .before .before .before .args .message) (told-good c) (length-replicate {A = ℕ} 2049 0) (c .before .before .put-text .ensures)
+counted c = page-count (c .before .before .before .before .before .args .message) (known-good c) (length-replicate {A = ℕ} 2049 0) (c .before .before .put-text .ensures)
 
 paged : (c : tie.Else1)
     → take (c .before .before .put-text .result) (c .before .before .put-text .last .0) ≡ textOf (c .before .before .before .before .before .args .message)
-paged c = page-text (c .before .before .before .before .before .args .message) (told-good c) (length-replicate {A = ℕ} 2049 0) (c .before .before .put-text .ensures)
+paged c = page-text (c .before .before .before .before .before .args .message) (known-good c) (length-replicate {A = ℕ} 2049 0) (c .before .before .put-text .ensures)
 
 slice-aggregate-put-text : tie.Need-slice-aggregate-put-text
 slice-aggregate-put-text c = search needs
@@ -44,7 +44,7 @@ refused-requires-2 c κs = search needs
 returns-2 : tie.Need-returns-2
 returns-2 c =
     too-long (c .before .before .before .before .before .before .before .args .message) (c .refused2 .result)
-    (c .before .before .before .before .before .before .before .args .out .now) _ (told-good (c .before .before)) (counted (c .before .before))
+    (c .before .before .before .before .before .before .before .args .out .now) _ (known-good (c .before .before)) (counted (c .before .before))
     (c .before .if2 .taken) (c .refused2 .ensures)
 
 refused-requires-3 : tie.Need-refused-requires-3
@@ -53,7 +53,7 @@ refused-requires-3 c κs = search needs
 returns-3 : tie.Need-returns-3
 returns-3 c =
     no-room (c .before .before .before .before .before .before .before .before .args .message) (c .refused3 .result)
-    (c .before .before .before .before .before .before .before .before .args .out .now) _ (told-good (c .before .before .before)) (counted (c .before .before .before))
+    (c .before .before .before .before .before .before .before .before .args .out .now) _ (known-good (c .before .before .before)) (counted (c .before .before .before))
     (c .before .before .if2 .left) (c .before .if3 .taken) (c .refused3 .ensures)
 
 array-share-prefix-page : tie.Need-array-share-prefix-page
@@ -73,7 +73,7 @@ same-length c = search needs
 
 returns-4 : tie.Need-returns-4
 returns-4 c =
-    all-written (c .before .before .before .before .before .before .before .before .before .before .before .before .args .message) _ (told-good
+    all-written (c .before .before .before .before .before .before .before .before .before .before .before .before .args .message) _ (known-good
     (c .before .before .before .before .before .before .before)) (counted (c .before .before .before .before .before .before .before))
     (c .before .before .before .before .before .before .if2 .left) (c .before .before .before .before .before .if3 .left) (paged
     (c .before .before .before .before .before .before .before)) (c .before .before .put-all .ensures)

@@ -12,8 +12,8 @@ use Rattle.message.specs.Limits.{nameBytes}
 use Rattle.grammar.specs.States.State.{atIndicator, atName, atMoreName, atForm}
 use Rattle.grammar.specs.Steps.{step}
 use Rattle.reader_sections.specs.declared.steps.Step.{Step}
-use Rattle.reader_sections.specs.Heads.{AreaSays}
-use Rattle.reader_sections.specs.Naming.{NameSays}
+use Rattle.reader_sections.specs.Openings.{AreaSays}
+use Rattle.reader_sections.specs.Names.{NameSays}
 use Rattle.reader_sections.specs.Steps.{Takes}
 use Rattle.reader_sections.proofs.Leads.{then}
 use Rattle.reader_sections.proofs.NameText.{areaClosed, area-takes, name-closed}

@@ -3,6 +3,7 @@ use borrow.Author.Needs.{needs}
 use mathlib.Core.List.{List}
 use mathlib.Core.Path.{_≡_, ap}
 use Prim.Native.Nat.{ℕ}
+use Rattle.vocabulary.specs.Codes.{code-cnl, code-test, code-test-stop}
 use Rattle.vocabulary.proofs.FixedWords.{fixed-test, fixed-test-stop, fixed-cnl}
 use Rattle.message.specs.declared.FirstLine.{FirstLine}
 use Rattle.message.specs.declared.Form.the-variants.{Reported}
@@ -15,25 +16,25 @@ use Rattle.reader_sections.specs.declared.steps.Step.{Step}
 use Rattle.reader_sections.specs.Bodies.{TestBodySays, LongTestBodySays, CancellationBodySays, BodySays}
 use Rattle.reader_sections.specs.Reports.{ReportSays}
 use Rattle.reader_sections.specs.Steps.{Stands, Before}
-use Rattle.reader_sections.proofs.FormLaws.{codeAt, takes-code}
+use Rattle.reader_sections.proofs.NextCode.{codeAt, takes-code}
 use Rattle.reader_sections.proofs.Leads.{at-last, code-no}
 use Rattle.reader_sections.proofs.body.read_body.Statement.{statement}
 use Rattle.reader_sections.proofs.body.read_body.Tie as tie
 
 module _ {kind closing code : ℕ} {line : FirstLine} {t : List ℕ} {from to : Step} {r : Report} (f : Stands t from) (e : code ≡ codeAt t from) where
-  test : {a : Step} {form : Form} → code ≡ 0x0154455354 → Before t (from .end) a → TestBodySays t a to form r → BodySays kind line closing t from to form r
+  test : {a : Step} {form : Form} → code ≡ code-test → Before t (from .end) a → TestBodySays t a to form r → BodySays kind line closing t from to form r
   unfolding step stepForm
   test y p body = record { says = λ o k l q. at-last (takes-code f e fixed-test y p (atForm o) (atTest o) (λ z i. rw i)) (body .says o) }
 
-  module _ (no-test : code ≡ 0x0154455354 → ⊥) where
-    long-test : {a : Step} {form : Form} → code ≡ 0x01544553542e → Before t (from .end) a → LongTestBodySays t a to form r → BodySays kind line closing t from to form r
+  module _ (no-test : code ≡ code-test → ⊥) where
+    long-test : {a : Step} {form : Form} → code ≡ code-test-stop → Before t (from .end) a → LongTestBodySays t a to form r → BodySays kind line closing t from to form r
     unfolding step stepForm
     long-test y p body = record {
       says = λ o k l q. at-last (takes-code f e fixed-test-stop y p (atForm o) (atTestText o 3 1) (λ z i. rw (code-no f e z fixed-test no-test, i))) (body .says o);
     }
 
-    module _ (no-stop : code ≡ 0x01544553542e → ⊥) where
-      cancellation : {a : Step} {form : Form} → code ≡ 0x01434e4c → Before t (from .end) a → CancellationBodySays line t a to form r → BodySays kind line closing t from to form r
+    module _ (no-stop : code ≡ code-test-stop → ⊥) where
+      cancellation : {a : Step} {form : Form} → code ≡ code-cnl → Before t (from .end) a → CancellationBodySays line t a to form r → BodySays kind line closing t from to form r
       unfolding step stepForm
       cancellation y p body = record {
         says = λ o k l q. at-last
@@ -41,7 +42,7 @@ module _ {kind closing code : ℕ} {line : FirstLine} {t : List ℕ} {from to : 
             (body .says o l);
       }
 
-      reported : (code ≡ 0x01434e4c → ⊥) → ReportSays kind closing (timeOfDay (line .valid .to)) t from to r → BodySays kind line closing t from to Reported r
+      reported : (code ≡ code-cnl → ⊥) → ReportSays kind closing (timeOfDay (line .valid .to)) t from to r → BodySays kind line closing t from to Reported r
       reported no-cnl report = record {
         says = λ o k l q. report .says o k q (ap (λ (x : FirstLine). timeOfDay (x .valid .to)) l)
             (λ z. record {

@@ -3,6 +3,7 @@ use borrow.Author.Needs.{needs}
 use mathlib.Core.List.{List}
 use mathlib.Core.Path.{refl}
 use Prim.Native.Nat.{ℕ}
+use Rattle.vocabulary.specs.Codes.{code-sigmet}
 use Rattle.vocabulary.proofs.FixedWords.{fixed-sigmet}
 use Rattle.groups.specs.declared.Period.{Period}
 use Rattle.groups.specs.Groups.{periodOf}
@@ -19,7 +20,7 @@ use Rattle.reader_sections.proofs.Leads.{then}
 use Rattle.reader_sections.proofs.cancellation.read_cancellation.Statement.{statement}
 use Rattle.reader_sections.proofs.cancellation.read_cancellation.Tie as tie
 
-cancelled : {t : List ℕ} {from a b to : Step} {line : FirstLine} {s : Sequence} {p : Period} → TakesFixed 0x015349474d4554 7 t from a
+cancelled : {t : List ℕ} {from a b to : Step} {line : FirstLine} {s : Sequence} {p : Period} → TakesFixed code-sigmet 7 t from a
     → Takes sequenceOf goodSequence 7 t a b s → Takes periodOf (cancels line s) 7 t b to p → CancellationSays line t from to s (p .from)
 unfolding step
 cancelled {s = s} sigmet sequence period = record {

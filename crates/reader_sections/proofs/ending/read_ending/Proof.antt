@@ -10,6 +10,7 @@ use Rattle.lists.specs.Choice.{both}
 use Rattle.lists.specs.Lists.{part}
 use Rattle.lists.proofs.Choice.{by}
 use Rattle.figures.specs.Codes.{codeOf}
+use Rattle.vocabulary.specs.Codes.{code-mov, code-stnr}
 use Rattle.vocabulary.proofs.FixedWords.{fixed-mov, fixed-stnr}
 use Rattle.groups.specs.declared.Time.{Time}
 use Rattle.motions.specs.Motions.{intensityOf, goodIntensity}
@@ -23,14 +24,14 @@ use Rattle.grammar.specs.States.State.{atEnding, atCompass, atStationary, atEnd
 use Rattle.grammar.specs.Steps.{kindOf, stepEnding, step}
 use Rattle.reader_sections.specs.declared.steps.Step.{Step}
 use Rattle.reader_sections.specs.Endings.{MovingSays, ForecastSays, EndingSays}
-use Rattle.reader_sections.specs.Steps.{Stands, Before, Judged, Takes}
+use Rattle.reader_sections.specs.Steps.{wordOn, Stands, Before, Judged, Takes}
 use Rattle.reader_sections.proofs.FirstWords.{both-these, not-both}
 use Rattle.reader_sections.proofs.Leads.{then, goes-code, code-yes, code-no, takes-fixed}
 use Rattle.reader_sections.proofs.ending.read_ending.Statement.{statement}
 use Rattle.reader_sections.proofs.ending.read_ending.Tie as tie
 
-module _ {t : List ℕ} {from to : Step} {code : ℕ} (f : Stands t from) (e : code ≡ codeOf (part (from .place) (from .end) t)) where
-  moves : {past : Step} {kind closing : ℕ} {end : Time} {d : Ending} {x : Extent} → code ≡ 0x014d4f56 → Before t (from .end) past → MovingSays t past to d x
+module _ {t : List ℕ} {from to : Step} {code : ℕ} (f : Stands t from) (e : code ≡ codeOf (wordOn t from)) where
+  moves : {past : Step} {kind closing : ℕ} {end : Time} {d : Ending} {x : Extent} → code ≡ code-mov → Before t (from .end) past → MovingSays t past to d x
       → EndingSays kind closing end t from to d x
   unfolding step stepEnding
   moves is past moving = record {
@@ -38,26 +39,26 @@ module _ {t : List ℕ} {from to : Step} {code : ℕ} (f : Stands t from) (e : c
     stands = moving .stands;
   }
 
-  module _ {kind : ℕ} {forecasts : Bool} (no-mov : code ≡ 0x014d4f56 → ⊥) (b : forecasts ≡ both (eqb kind ws) (not (eqb code 0x0153544e52))) where
+  module _ {kind : ℕ} {forecasts : Bool} (no-mov : code ≡ code-mov → ⊥) (b : forecasts ≡ both (eqb kind ws) (not (eqb code code-stnr))) where
     with-forecast : {closing : ℕ} {end : Time} {d : Ending} {x : Extent} → forecasts ≡ true → ForecastSays closing end t from to d x → EndingSays kind closing end t from to d x
     unfolding step stepEnding
     with-forecast y forecast =
-        let these = both-these kind ws code 0x0153544e52 (sym b ∙ y) in
+        let these = both-these kind ws code code-stnr (sym b ∙ y) in
         record {
           says = λ l w a u. forecast .says l a u (λ z. rw (code-no f e z fixed-mov no-mov, code-no f e z fixed-stnr (these .1), eq-eqb (kindOf (areaOf l)) ws (w ∙ these .0)));
           stands = forecast .stands;
         }
 
-    still : {closing i : ℕ} {end : Time} {past : Step} → forecasts ≡ false → Judged t from (eqb code 0x0153544e52) 11 past → Takes intensityOf goodIntensity 11 t past to i
+    still : {closing i : ℕ} {end : Time} {past : Step} → forecasts ≡ false → Judged t from (eqb code code-stnr) 11 past → Takes intensityOf goodIntensity 11 t past to i
         → EndingSays kind closing end t from to (Stationary i) noExtent
     unfolding step stepEnding
     still n stnr intensity = record {
       says = λ l w a u. then
           (takes-fixed f e stnr .says _ fixed-stnr (atEnding l) (atStationary l)
-          (λ z. by (eqb code 0x0153544e52) (λ y. rw (code-no f e z fixed-mov no-mov, code-yes f e fixed-stnr (eqb-true _ _ y)))
+          (λ z. by (eqb code code-stnr) (λ y. rw (code-no f e z fixed-mov no-mov, code-yes f e fixed-stnr (eqb-true _ _ y)))
           (λ y.
-          let other = eqb-false code 0x0153544e52 y in
-          rw (code-no f e z fixed-mov no-mov, code-no f e z fixed-stnr other, ne-eqb (kindOf (areaOf l)) ws (λ q. not-both kind ws code 0x0153544e52 (sym b ∙ n) other (sym w ∙ q)))))
+          let other = eqb-false code code-stnr y in
+          rw (code-no f e z fixed-mov no-mov, code-no f e z fixed-stnr other, ne-eqb (kindOf (areaOf l)) ws (λ q. not-both kind ws code code-stnr (sym b ∙ n) other (sym w ∙ q)))))
           refl)
           (intensity .says (atStationary l) (λ i. atEnd (reportOf l (Stationary i) noExtent)) (λ z. refl) refl);
       stands = intensity .stands;

@@ -3,6 +3,7 @@ use borrow.Author.Needs.{needs}
 use mathlib.Core.List.{List}
 use mathlib.Core.Path.{refl}
 use Prim.Native.Nat.{ℕ}
+use Rattle.vocabulary.specs.Codes.{code-at, code-fcst}
 use Rattle.vocabulary.proofs.FixedWords.{fixed-fcst, fixed-at}
 use Rattle.groups.specs.declared.Time.{Time}
 use Rattle.groups.specs.Groups.{timeOf}
@@ -22,8 +23,8 @@ use Rattle.reader_sections.proofs.Leads.{then}
 use Rattle.reader_sections.proofs.ending.read_forecast.Statement.{statement}
 use Rattle.reader_sections.proofs.ending.read_forecast.Tie as tie
 
-forecast : {t : List ℕ} {from a b c d to : Step} {i closing : ℕ} {u end : Time} {x : Extent} → Takes intensityOf goodIntensity 11 t from a i → TakesFixed 0x0146435354 11 t a b
-    → TakesFixed 0x014154 11 t b c → Takes timeOf (forecastTime end) 11 t c d u → LocatedInSays closing atLocation 11 t d to x → ForecastSays closing end t from to (Forecast i) x
+forecast : {t : List ℕ} {from a b c d to : Step} {i closing : ℕ} {u end : Time} {x : Extent} → Takes intensityOf goodIntensity 11 t from a i → TakesFixed code-fcst 11 t a b
+    → TakesFixed code-at 11 t b c → Takes timeOf (forecastTime end) 11 t c d u → LocatedInSays closing atLocation 11 t d to x → ForecastSays closing end t from to (Forecast i) x
 unfolding step
 forecast {i = i} intensity fcst at time location = record {
   says = λ l a e f. then (intensity .says (atEnding l) (atForecast l) f refl)

@@ -11,7 +11,7 @@ use Rattle.headings.specs.Headings.{designatorOf, goodDesignator}
 use Rattle.grammar.specs.States.State.{atDesignator, atCentre, atSent, atCorrection}
 use Rattle.grammar.specs.Steps.{step}
 use Rattle.reader_sections.specs.declared.steps.Step.{Step}
-use Rattle.reader_sections.specs.Heads.{CorrectionSays, HeadingSays}
+use Rattle.reader_sections.specs.Openings.{CorrectionSays, HeadingSays}
 use Rattle.reader_sections.specs.Steps.{Takes}
 use Rattle.reader_sections.proofs.Leads.{then}
 use Rattle.reader_sections.proofs.heading.read_heading.Statement.{statement}

@@ -4,6 +4,7 @@ use mathlib.Core.Bool.{Bool, true, false}
 use mathlib.Core.List.{List}
 use mathlib.Core.Path.{_≡_, refl}
 use Prim.Native.Nat.{ℕ}
+use Rattle.vocabulary.specs.Codes.{code-abv}
 use Rattle.vocabulary.proofs.FixedWords.{fixed-abv}
 use Rattle.levels.specs.declared.Level.the-variants.{TopFlight, TopAboveFlight}
 use Rattle.levels.specs.Levels.{flight}
@@ -16,7 +17,7 @@ use Rattle.reader_sections.proofs.Leads.{then}
 use Rattle.reader_sections.proofs.level.read_top.Statement.{statement}
 use Rattle.reader_sections.proofs.level.read_top.Tie as tie
 
-module _ {t : List ℕ} {from next to : Step} {found : Bool} {n : ℕ} (above : MayTake 0x01414256 t from found next) (height : Takes flightIn flight 10 t next to n) where
+module _ {t : List ℕ} {from next to : Step} {found : Bool} {n : ℕ} (above : MayTake code-abv t from found next) (height : Takes flightIn flight 10 t next to n) where
   top-above : found ≡ true → TopSays t from to (TopAboveFlight n)
   unfolding step
   top-above y = record {

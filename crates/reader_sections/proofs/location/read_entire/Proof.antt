@@ -2,7 +2,8 @@
 use borrow.Author.Needs.{needs}
 use mathlib.Core.Logic.{⊎-elim}
 use Rattle.figures.specs.Codes.{FixedWord}
-use Rattle.grammar.specs.Placing.{entireWord, placeStep}
+use Rattle.grammar.specs.Placing.{placeStep}
+use Rattle.message.specs.Locations.{entireWord}
 use Rattle.grammar.specs.Records.{entirely}
 use Rattle.grammar.specs.States.Placing.{atEntire}
 use Rattle.reader_sections.proofs.Sides.{fixed-there, entire-cta, entire-fir}

@@ -7,6 +7,7 @@ use Prim.Native.Nat.{ℕ, _<_}
 use lib.Dec.{eqb, lit<}
 use Rattle.lists.specs.Lists.{part}
 use Rattle.figures.specs.Codes.{codeOf}
+use Rattle.vocabulary.specs.Codes.{code-entire, code-wi}
 use Rattle.vocabulary.proofs.FixedWords.{fixed-entire, fixed-wi}
 use Rattle.coordinates.specs.Coordinates.{Axis, northSouth, eastWest}
 use Rattle.message.specs.declared.Extent.{Extent}
@@ -16,18 +17,18 @@ use Rattle.grammar.specs.States.Placing.{atLocation, atLatitudeOf, atLongitudeO
 use Rattle.grammar.specs.States.State.{atPlace}
 use Rattle.reader_sections.specs.declared.steps.Step.{Step}
 use Rattle.reader_sections.specs.Locations.{SideSays, LocatedSays, LocatedInSays}
-use Rattle.reader_sections.specs.Steps.{wordFrom, Stands, Before, Judged}
+use Rattle.reader_sections.specs.Steps.{wordOn, wordFrom, Stands, Before, Judged}
 use Rattle.reader_sections.proofs.Leads.{then, goes-code, code-going, code-yes, code-no, takes-fixed}
 use Rattle.reader_sections.proofs.Sides.{on-step, fixed-on, side-going, side-no, side-on}
 use Rattle.reader_sections.proofs.location.read_location.Statement.{statement}
 use Rattle.reader_sections.proofs.location.read_location.Tie as tie
 
 -- the first word is no letter of an axis
-not-of : {t : List ℕ} {from : Step} {code n : ℕ} → Stands t from → code ≡ codeOf (part (from .place) (from .end) t) → (a : Axis) → 0 < a .plus → 0 < a .minus
+not-of : {t : List ℕ} {from : Step} {code n : ℕ} → Stands t from → code ≡ codeOf (wordOn t from) → (a : Axis) → 0 < a .plus → 0 < a .minus
     → SideSays code (a .plus) (a .minus) n → n ≡ 0 → from .number ≡ 0 → sideWord a (wordFrom t (from .place)) ≡ false
 not-of f e a p m side none z = side-no f e a side p m z none
 
-module _ {t : List ℕ} {from past to : Step} {closing refusal code n : ℕ} {x : Extent} (f : Stands t from) (e : code ≡ codeOf (part (from .place) (from .end) t)) (north : SideSays code 78 83 n) where
+module _ {t : List ℕ} {from past to : Step} {closing refusal code n : ℕ} {x : Extent} (f : Stands t from) (e : code ≡ codeOf (wordOn t from)) (north : SideSays code 78 83 n) where
   of-latitude : (n ≡ 0 → ⊥) → Before t (from .end) past → LocatedSays (atLatitudeOf n) refusal t past to x → LocatedInSays closing atLocation refusal t from to x
   unfolding placeStep locating
   of-latitude y p rest = record {
@@ -47,7 +48,7 @@ module _ {t : List ℕ} {from past to : Step} {closing refusal code n : ℕ} {x 
           stands = rest .stands;
         }
 
-    entire : w ≡ 0 → code ≡ 0x01454e54495245 → Before t (from .end) past → LocatedInSays closing atEntire refusal t past to x → LocatedInSays closing atLocation refusal t from to x
+    entire : w ≡ 0 → code ≡ code-entire → Before t (from .end) past → LocatedInSays closing atEntire refusal t past to x → LocatedInSays closing atLocation refusal t from to x
     unfolding placeStep locating
     entire nor is p rest =
         let z = code-going f e fixed-entire is in
@@ -60,7 +61,7 @@ module _ {t : List ℕ} {from past to : Step} {closing refusal code n : ℕ} {x 
           stands = rest .stands;
         }
 
-    outline : w ≡ 0 → (code ≡ 0x01454e54495245 → ⊥) → Judged t from (eqb code 0x015749) refusal past → LocatedSays (atLatitude []) refusal t past to x
+    outline : w ≡ 0 → (code ≡ code-entire → ⊥) → Judged t from (eqb code code-wi) refusal past → LocatedSays (atLatitude []) refusal t past to x
         → LocatedInSays closing atLocation refusal t from to x
     unfolding placeStep locating
     outline nor other within rest = record {

@@ -4,6 +4,7 @@ use mathlib.Core.List.{List}
 use mathlib.Core.Path.{_≡_, refl}
 use Prim.Native.Nat.{ℕ}
 use lib.Dec.{eqb}
+use Rattle.vocabulary.specs.Codes.{code-fcst, code-obs}
 use Rattle.vocabulary.proofs.FixedWords.{fixed-obs, fixed-fcst}
 use Rattle.message.specs.declared.Observation.{Observation}
 use Rattle.grammar.specs.States.State.{atObservation, atObserved}
@@ -11,17 +12,17 @@ use Rattle.grammar.specs.Steps.{step}
 use Rattle.reader_sections.specs.declared.steps.Step.{Step}
 use Rattle.reader_sections.specs.Reports.{ObservedSays, ObservationSays}
 use Rattle.reader_sections.specs.Steps.{Stands, Before, Judged}
-use Rattle.reader_sections.proofs.FormLaws.{codeAt, takes-code}
+use Rattle.reader_sections.proofs.NextCode.{codeAt, takes-code}
 use Rattle.reader_sections.proofs.Leads.{then, code-no, takes-fixed}
 use Rattle.reader_sections.proofs.observation.read_observation.Statement.{statement}
 use Rattle.reader_sections.proofs.observation.read_observation.Tie as tie
 
 module _ {t : List ℕ} {from a to : Step} {code : ℕ} {o : Observation} (f : Stands t from) (e : code ≡ codeAt t from) where
-  obs : code ≡ 0x014f4253 → Before t (from .end) a → ObservedSays 1 t a to o → ObservationSays t from to o
+  obs : code ≡ code-obs → Before t (from .end) a → ObservedSays 1 t a to o → ObservationSays t from to o
   unfolding step
   obs y p rest = record { says = λ q. then (takes-code f e fixed-obs y p (atObservation q) (atObserved q 1) (λ z i. rw i)) (rest .says q); stands = rest .stands }
 
-  fcst : (code ≡ 0x014f4253 → ⊥) → Judged t from (eqb code 0x0146435354) 8 a → ObservedSays 2 t a to o → ObservationSays t from to o
+  fcst : (code ≡ code-obs → ⊥) → Judged t from (eqb code code-fcst) 8 a → ObservedSays 2 t a to o → ObservationSays t from to o
   unfolding step
   fcst n j rest = record {
     says = λ q. then (takes-fixed f e j .says _ fixed-fcst (atObservation q) (atObserved q 2) (λ z. rw (code-no f e z fixed-obs n)) refl) (rest .says q);

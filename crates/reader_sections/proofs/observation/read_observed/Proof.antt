@@ -5,6 +5,7 @@ use mathlib.Core.List.{List}
 use mathlib.Core.Path.{_≡_, refl}
 use Prim.Native.Nat.{ℕ}
 use borrow.Author.Tests.{not-true, not-false}
+use Rattle.vocabulary.specs.Codes.{code-at}
 use Rattle.vocabulary.proofs.FixedWords.{fixed-at}
 use Rattle.groups.specs.declared.Time.{Time}
 use Rattle.groups.specs.Groups.{timeOf, goodTime}
@@ -20,7 +21,7 @@ use Rattle.reader_sections.proofs.Leads.{then}
 use Rattle.reader_sections.proofs.observation.read_observed.Statement.{statement}
 use Rattle.reader_sections.proofs.observation.read_observed.Tie as tie
 
-module _ {t : List ℕ} {from a : Step} {found : Bool} {word : ℕ} (at : MayTake 0x014154 t from found a) where
+module _ {t : List ℕ} {from a : Step} {found : Bool} {word : ℕ} (at : MayTake code-at t from found a) where
   untimed-says : found ≡ false → ObservedSays word t from a (untimed word)
   unfolding step
   untimed-says n = record { says = λ p. at .without n _ fixed-at (atObserved p word) _ (λ z i. rw i) refl; stands = at .stands }

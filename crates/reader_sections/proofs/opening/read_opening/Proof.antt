@@ -6,7 +6,7 @@ use Rattle.message.specs.declared.Area.{Area}
 use Rattle.message.specs.declared.FirstLine.{FirstLine}
 use Rattle.message.specs.declared.Heading.{Heading}
 use Rattle.reader_sections.specs.declared.steps.Step.{Step}
-use Rattle.reader_sections.specs.Heads.{HeadingSays, LineSays, AreaSays, OpeningSays}
+use Rattle.reader_sections.specs.Openings.{HeadingSays, LineSays, AreaSays, OpeningSays}
 use Rattle.reader_sections.proofs.Leads.{then}
 use Rattle.reader_sections.proofs.opening.read_opening.Statement.{statement}
 use Rattle.reader_sections.proofs.opening.read_opening.Tie as tie

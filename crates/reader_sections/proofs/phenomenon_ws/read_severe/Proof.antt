@@ -6,6 +6,7 @@ use mathlib.Core.Path.{_≡_, refl}
 use Prim.Native.Nat.{ℕ}
 use native.Mathlib.Omega.{arith}
 use lib.Dec.{eqb}
+use Rattle.vocabulary.specs.Codes.{code-freezing-rain, code-ice, code-mtw, code-turb}
 use Rattle.vocabulary.proofs.FixedWords.{fixed-turb, fixed-mtw, fixed-ice, fixed-freezing-rain}
 use Rattle.grammar.specs.States.State.{atSevere, atIce}
 use Rattle.grammar.specs.States.{ToArea}
@@ -13,25 +14,25 @@ use Rattle.grammar.specs.Steps.{step}
 use Rattle.reader_sections.specs.declared.steps.Step.{Step}
 use Rattle.reader_sections.specs.Phenomena.{WeatherFrom}
 use Rattle.reader_sections.specs.Steps.{Stands, Before, Judged, MayTake, Leads}
-use Rattle.reader_sections.proofs.FormLaws.{codeAt, takes-code}
+use Rattle.reader_sections.proofs.NextCode.{codeAt, takes-code}
 use Rattle.reader_sections.proofs.Leads.{then, code-no, takes-fixed}
 use Rattle.reader_sections.proofs.phenomenon_ws.read_severe.Statement.{statement}
 use Rattle.reader_sections.proofs.phenomenon_ws.read_severe.Tie as tie
 
 module _ {t : List ℕ} {from to : Step} {code : ℕ} (f : Stands t from) (e : code ≡ codeAt t from) where
-  sev-turb : code ≡ 0x0154555242 → Before t (from .end) to → WeatherFrom atSevere t from to 9
+  sev-turb : code ≡ code-turb → Before t (from .end) to → WeatherFrom atSevere t from to 9
   unfolding step
   sev-turb y p = record { says = λ o. takes-code f e fixed-turb y p (atSevere o) _ (λ z i. rw i); stands = p .stands }
 
-  module _ (no-turb : code ≡ 0x0154555242 → ⊥) where
-    sev-mtw : code ≡ 0x014d5457 → Before t (from .end) to → WeatherFrom atSevere t from to 12
+  module _ (no-turb : code ≡ code-turb → ⊥) where
+    sev-mtw : code ≡ code-mtw → Before t (from .end) to → WeatherFrom atSevere t from to 12
     unfolding step
     sev-mtw y p = record {
       says = λ o. takes-code f e fixed-mtw y p (atSevere o) _ (λ z i. rw (code-no f e z fixed-turb no-turb, code-no f e z fixed-ice (λ y′. omega arith), i));
       stands = p .stands;
     }
 
-    module _ {ice : Step} {found : Bool} (no-mtw : code ≡ 0x014d5457 → ⊥) (j : Judged t from (eqb code 0x01494345) 7 ice) (rain : MayTake 0x0128465a524129 t ice found to) where
+    module _ {ice : Step} {found : Bool} (no-mtw : code ≡ code-mtw → ⊥) (j : Judged t from (eqb code code-ice) 7 ice) (rain : MayTake code-freezing-rain t ice found to) where
       on-ice : (o : ToArea) → Leads (atSevere o) t from ice (atIce o)
       unfolding step
       on-ice o = takes-fixed f e j .says _ fixed-ice (atSevere o) (atIce o) (λ z. rw (code-no f e z fixed-turb no-turb, code-no f e z fixed-mtw no-mtw)) refl

@@ -7,20 +7,21 @@ use lib.Dec.{eqb}
 use Rattle.lists.specs.Base.{worthAfter}
 use Rattle.lists.specs.Lists.{allOf, indexOf}
 use Rattle.figures.specs.Codes.{codeOf}
+use Rattle.vocabulary.specs.Codes.{code-obsc, code-embd, code-frq, code-sql, code-hvy, code-rdoact, code-sev}
 use Rattle.vocabulary.proofs.FixedWords.{fixed-sev, fixed-hvy, fixed-rdoact}
 use Rattle.grammar.specs.States.State.{atForm, atStorm, atSevere, atHeavy, atRadioactive}
 use Rattle.grammar.specs.Steps.{stormWords}
 use Rattle.reader_sections.specs.declared.steps.Step.{Step}
 use Rattle.reader_sections.specs.Phenomena.{WeatherFrom, WeatherSays}
 use Rattle.reader_sections.specs.Steps.{Stands, Before, Judged}
-use Rattle.reader_sections.proofs.FormLaws.{codeAt, takes-code}
+use Rattle.reader_sections.proofs.NextCode.{codeAt, takes-code}
 use Rattle.reader_sections.proofs.Leads.{then, code-no, takes-fixed}
 use Rattle.reader_sections.proofs.Storms.{goes-storm, no-storm}
 use Rattle.reader_sections.proofs.phenomenon_ws.read_weather.Statement.{statement}
 use Rattle.reader_sections.proofs.phenomenon_ws.read_weather.Tie as tie
 
 abbrev storms : List ℕ
-storms = 0x014f425343 ∷ 0x01454d4244 ∷ 0x01465251 ∷ 0x0153514c ∷ []
+storms = code-obsc ∷ code-embd ∷ code-frq ∷ code-sql ∷ []
 
 the-storms : storms ≡ map codeOf stormWords
 unfolding codeOf worthAfter allOf stormWords
@@ -31,14 +32,14 @@ module _ {t : List ℕ} {from a to : Step} {code n phenomenon : ℕ} (f : Stands
   storm-first l p rest = record { says = λ o j. then (goes-storm f e found the-storms l p o j) (rest .says o); stands = rest .stands }
 
   module _ (none : 4 ≤ n) where
-    sev-first : code ≡ 0x01534556 → Before t (from .end) a → WeatherFrom atSevere t a to phenomenon → WeatherSays t from to phenomenon
+    sev-first : code ≡ code-sev → Before t (from .end) a → WeatherFrom atSevere t a to phenomenon → WeatherSays t from to phenomenon
     sev-first y p rest = record {
       says = λ o j. then (takes-code f e fixed-sev y p (atForm o) (atSevere o) (λ z i. j z ∙ rw (no-storm f e found the-storms z none, i))) (rest .says o);
       stands = rest .stands;
     }
 
-    module _ (no-sev : code ≡ 0x01534556 → ⊥) where
-      hvy-first : code ≡ 0x01485659 → Before t (from .end) a → WeatherFrom atHeavy t a to phenomenon → WeatherSays t from to phenomenon
+    module _ (no-sev : code ≡ code-sev → ⊥) where
+      hvy-first : code ≡ code-hvy → Before t (from .end) a → WeatherFrom atHeavy t a to phenomenon → WeatherSays t from to phenomenon
       hvy-first y p rest = record {
         says = λ o j. then
             (takes-code f e fixed-hvy y p (atForm o) (atHeavy o) (λ z i. j z ∙ rw (no-storm f e found the-storms z none, code-no f e z fixed-sev no-sev, i)))
@@ -46,7 +47,7 @@ module _ {t : List ℕ} {from a to : Step} {code n phenomenon : ℕ} (f : Stands
         stands = rest .stands;
       }
 
-      rdoact-first : (code ≡ 0x01485659 → ⊥) → Judged t from (eqb code 0x0152444f414354) 7 a → WeatherFrom atRadioactive t a to phenomenon → WeatherSays t from to phenomenon
+      rdoact-first : (code ≡ code-hvy → ⊥) → Judged t from (eqb code code-rdoact) 7 a → WeatherFrom atRadioactive t a to phenomenon → WeatherSays t from to phenomenon
       rdoact-first no-hvy j rest = record {
         says = λ o k. then
             (takes-fixed f e j .says _ fixed-rdoact (atForm o) (atRadioactive o)

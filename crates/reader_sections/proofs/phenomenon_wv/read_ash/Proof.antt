@@ -5,6 +5,7 @@ use mathlib.Core.List.{List}
 use mathlib.Core.Path.{_≡_, refl}
 use Prim.Native.Nat.{ℕ}
 use Rattle.lists.specs.Text.{bytes}
+use Rattle.vocabulary.specs.Codes.{code-cld, code-va}
 use Rattle.vocabulary.proofs.FixedWords.{fixed-va, fixed-cld}
 use Rattle.message.specs.declared.Volcano.{Volcano}
 use Rattle.message.specs.Reports.{noVolcano}
@@ -17,7 +18,7 @@ use Rattle.reader_sections.proofs.Leads.{then}
 use Rattle.reader_sections.proofs.phenomenon_wv.read_ash.Statement.{statement}
 use Rattle.reader_sections.proofs.phenomenon_wv.read_ash.Tie as tie
 
-module _ {t : List ℕ} {from a b : Step} {found : Bool} (va : TakesFixed 0x015641 7 t from a) (cld : MayTake 0x01434c44 t a found b) where
+module _ {t : List ℕ} {from a b : Step} {found : Bool} (va : TakesFixed code-va 7 t from a) (cld : MayTake code-cld t a found b) where
   va-cld : found ≡ true → AshSays t from b 16 noVolcano
   unfolding step
   va-cld y = record {

@@ -3,6 +3,7 @@ use borrow.Author.Needs.{needs}
 use mathlib.Core.List.{List}
 use mathlib.Core.Path.{refl}
 use Prim.Native.Nat.{ℕ}
+use Rattle.vocabulary.specs.Codes.{code-cld, code-va}
 use Rattle.vocabulary.proofs.FixedWords.{fixed-va, fixed-cld}
 use Rattle.coordinates.specs.declared.Coordinate.{Coordinate}
 use Rattle.coordinates.specs.Coordinates.{northSouth, eastWest, coordinateOf, goodCoordinate}
@@ -18,7 +19,7 @@ use Rattle.reader_sections.proofs.phenomenon_wv.read_eruption.Tie as ti
 
 erupted : {t : List ℕ} {from a b c d to : Step} {name : Name} {north east : Coordinate} → MountainSays t from a name
     → Takes (coordinateOf northSouth) (goodCoordinate northSouth) 7 t a b north → Takes (coordinateOf eastWest) (goodCoordinate eastWest) 7 t b c east
-    → TakesFixed 0x015641 7 t c d → TakesFixed 0x01434c44 7 t d to
+    → TakesFixed code-va 7 t c d → TakesFixed code-cld 7 t d to
     → EruptionSays t from to 17 (record { name = name; position = record { latitude = north; longitude = east } })
 unfolding step
 erupted {name = name} {north} mountain latitude longitude va cld = record {

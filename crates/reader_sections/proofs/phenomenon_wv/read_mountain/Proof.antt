@@ -5,13 +5,14 @@ use mathlib.Core.List.{List}
 use mathlib.Core.Path.{_≡_, refl}
 use Prim.Native.Nat.{ℕ}
 use borrow.Author.Tests.{not-true, not-false}
+use Rattle.vocabulary.specs.Codes.{code-mt, code-psn}
 use Rattle.vocabulary.proofs.FixedWords.{fixed-mt, fixed-psn}
 use Rattle.message.specs.declared.Name.{Name}
 use Rattle.message.specs.Names.{noName}
 use Rattle.grammar.specs.States.State.{atEruption, atMountain, atMoreMountain, atPosition}
 use Rattle.grammar.specs.Steps.{step}
 use Rattle.reader_sections.specs.declared.steps.Step.{Step}
-use Rattle.reader_sections.specs.Naming.{NameSays}
+use Rattle.reader_sections.specs.Names.{NameSays}
 use Rattle.reader_sections.specs.Phenomena.{MountainSays}
 use Rattle.reader_sections.specs.Steps.{TakesFixed, MayTake}
 use Rattle.reader_sections.proofs.Leads.{then}
@@ -19,8 +20,8 @@ use Rattle.reader_sections.proofs.NameText.{mountainClosed, mountain-ta
 use Rattle.reader_sections.proofs.phenomenon_wv.read_mountain.Statement.{statement}
 use Rattle.reader_sections.proofs.phenomenon_wv.read_mountain.Tie as tie
 
-module _ {t : List ℕ} {from a to : Step} {found : Bool} (mt : MayTake 0x014d54 t from found a) where
-  psn-alone : found ≡ false → TakesFixed 0x0150534e 7 t a to → MountainSays t from to noName
+module _ {t : List ℕ} {from a to : Step} {found : Bool} (mt : MayTake code-mt t from found a) where
+  psn-alone : found ≡ false → TakesFixed code-psn 7 t a to → MountainSays t from to noName
   unfolding step
   psn-alone n psn = record {
     says = λ o. then (mt .without n _ fixed-mt (atEruption o) (atEruption o) (λ z i. refl) refl)
@@ -28,7 +29,7 @@ module _ {t : List ℕ} {from a to : Step} {found : Bool} (mt : MayTake 0x014d54
     stands = psn .stands;
   }
 
-  mt-name-psn : {b : Step} {name : Name} → found ≡ true → NameSays true 30 7 t a b name → TakesFixed 0x0150534e 7 t b to → MountainSays t from to name
+  mt-name-psn : {b : Step} {name : Name} → found ≡ true → NameSays true 30 7 t a b name → TakesFixed code-psn 7 t b to → MountainSays t from to name
   unfolding step
   mt-name-psn y whole psn = record {
     says = λ o. then (mt .with y _ fixed-mt (atEruption o) (atMountain o) (λ i. rw i))

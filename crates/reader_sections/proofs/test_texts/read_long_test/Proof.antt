@@ -3,6 +3,7 @@ use borrow.Author.Needs.{needs}
 use mathlib.Core.List.{List}
 use mathlib.Core.Path.{refl}
 use Prim.Native.Nat.{ℕ}
+use Rattle.vocabulary.specs.Codes.{code-a, code-is, code-sigmet-comma, code-test, code-this}
 use Rattle.vocabulary.proofs.FixedWords.{fixed-test, fixed-this, fixed-is, fixed-a, fixed-sigmet-comma}
 use Rattle.message.specs.Words.{testTexts}
 use Rattle.grammar.specs.States.State.{atTestText}
@@ -14,8 +15,8 @@ use Rattle.reader_sections.proofs.Leads.{then}
 use Rattle.reader_sections.proofs.test_texts.read_long_test.Statement.{statement}
 use Rattle.reader_sections.proofs.test_texts.read_long_test.Tie as tie
 
-this-is-a-test : {t : List ℕ} {from b c d e f to : Step} → TakesFixed 0x0154484953 7 t from b → TakesFixed 0x014953 7 t b c → TakesFixed 0x0141 7 t c d
-    → TakesFixed 0x0154455354 7 t d e → TakesFixed 0x015349474d45542c 7 t e f → PleaseSays t f to → LongTestSays t from to
+this-is-a-test : {t : List ℕ} {from b c d e f to : Step} → TakesFixed code-this 7 t from b → TakesFixed code-is 7 t b c → TakesFixed code-a 7 t c d
+    → TakesFixed code-test 7 t d e → TakesFixed code-sigmet-comma 7 t e f → PleaseSays t f to → LongTestSays t from to
 unfolding step testTexts
 this-is-a-test this is a test sigmet please = record {
   says = λ o. then (this .says _ fixed-this (atTestText o 3 1) (atTestText o 3 2) (λ z. refl) refl)

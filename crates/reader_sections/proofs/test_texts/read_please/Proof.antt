@@ -4,6 +4,7 @@ use mathlib.Core.List.{List}
 use mathlib.Core.Path.{refl}
 use Prim.Native.Nat.{ℕ}
 use Rattle.lists.specs.Text.{bytes}
+use Rattle.vocabulary.specs.Codes.{code-please}
 use Rattle.vocabulary.proofs.FixedWords.{fixed-please}
 use Rattle.message.specs.Words.{testTexts}
 use Rattle.grammar.specs.Records.{testOf}
@@ -16,7 +17,7 @@ use Rattle.reader_sections.proofs.Leads.{then}
 use Rattle.reader_sections.proofs.test_texts.read_please.Statement.{statement}
 use Rattle.reader_sections.proofs.test_texts.read_please.Tie as tie
 
-please-disregard : {t : List ℕ} {from a to : Step} → TakesFixed 0x01504c45415345 7 t from a → TakesLong (bytes "DISREGARD") 7 t a to → PleaseSays t from to
+please-disregard : {t : List ℕ} {from a to : Step} → TakesFixed code-please 7 t from a → TakesLong (bytes "DISREGARD") 7 t a to → PleaseSays t from to
 unfolding step testTexts
 please-disregard please disregard = record {
   second = λ o. then (please .says _ fixed-please (atTestText o 2 2) (atTestText o 2 3) (λ z. refl) refl)

@@ -5,6 +5,7 @@ use mathlib.Core.List.{List}
 use mathlib.Core.Path.{_≡_, refl}
 use Prim.Native.Nat.{ℕ}
 use borrow.Author.Tests.{not-true, not-false}
+use Rattle.vocabulary.specs.Codes.{code-sigmet}
 use Rattle.vocabulary.proofs.FixedWords.{fixed-sigmet}
 use Rattle.grammar.specs.States.State.{atTest, atTestText}
 use Rattle.grammar.specs.Steps.{step}
@@ -15,7 +16,7 @@ use Rattle.reader_sections.proofs.Leads.{then}
 use Rattle.reader_sections.proofs.test_texts.read_test.Statement.{statement}
 use Rattle.reader_sections.proofs.test_texts.read_test.Tie as tie
 
-module _ {t : List ℕ} {from a : Step} {found : Bool} (sigmet : MayTake 0x015349474d4554 t from found a) where
+module _ {t : List ℕ} {from a : Step} {found : Bool} (sigmet : MayTake code-sigmet t from found a) where
   test-only : found ≡ false → TestSays t from a 1
   unfolding step
   test-only n = record { says = λ o. sigmet .without n _ fixed-sigmet (atTest o) _ (λ z i. rw i) refl; stands = sigmet .stands }

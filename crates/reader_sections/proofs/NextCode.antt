@@ -10,12 +10,12 @@ use Rattle.grammar.specs.States.Move.{goes}
 use Rattle.grammar.specs.States.{State}
 use Rattle.grammar.specs.Steps.{step}
 use Rattle.reader_sections.specs.declared.steps.Step.{Step}
-use Rattle.reader_sections.specs.Steps.{wordFrom, Stands, Before, Leads}
+use Rattle.reader_sections.specs.Steps.{wordOn, wordFrom, Stands, Before, Leads}
 use Rattle.reader_sections.proofs.Leads.{goes-code, code-going, code-yes}
 
 -- the code of the next word
 abbrev pub codeAt : List ℕ → Step → ℕ
-codeAt t p = codeOf (part (p .place) (p .end) t)
+codeAt t p = codeOf (wordOn t p)
 
 -- the next word is the one that has this code, and the state takes it
 pub takes-code : {t k : List ℕ} {from to : Step} {code m : ℕ} → Stands t from → code ≡ codeAt t from → FixedWord k m → code ≡ m → Before t (from .end) to → (s next : State)

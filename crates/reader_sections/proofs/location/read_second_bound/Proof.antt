@@ -1,4 +1,4 @@
--- `read_after_north` meets its contract: without AND the location is over, with it a longitude bound follows. Assumes nothing.
+-- `read_second_bound` meets its contract: without AND the location is over, with it a longitude bound follows. Assumes nothing.
 use borrow.Author.Needs.{needs}
 use mathlib.Core.Bool.{Bool, true, false, not}
 use mathlib.Core.List.{List}
@@ -8,6 +8,7 @@ use lib.Dec.{eqb, lit<}
 use borrow.Author.Tests.{not-true, not-false}
 use Rattle.lists.specs.Lists.{part}
 use Rattle.figures.specs.Codes.{codeOf}
+use Rattle.vocabulary.specs.Codes.{code-and}
 use Rattle.vocabulary.proofs.FixedWords.{fixed-and}
 use Rattle.coordinates.specs.Coordinates.{eastWest}
 use Rattle.message.specs.declared.Extent.{Extent}
@@ -20,13 +21,13 @@ use Rattle.grammar.specs.States.State.{atPlace}
 use Rattle.grammar.specs.Steps.{after}
 use Rattle.reader_sections.specs.declared.steps.Step.{Step}
 use Rattle.reader_sections.specs.Locations.{SideSays, LocatedSays}
-use Rattle.reader_sections.specs.Steps.{Judged, MayTake}
+use Rattle.reader_sections.specs.Steps.{wordOn, Judged, MayTake}
 use Rattle.reader_sections.proofs.Leads.{then}
 use Rattle.reader_sections.proofs.Sides.{following-number, on-step, past-step, takes-on, takes-side, side-if}
-use Rattle.reader_sections.proofs.location.read_after_north.Statement.{statement}
-use Rattle.reader_sections.proofs.location.read_after_north.Tie as tie
+use Rattle.reader_sections.proofs.location.read_second_bound.Statement.{statement}
+use Rattle.reader_sections.proofs.location.read_second_bound.Tie as tie
 
-module _ {t : List ℕ} {from next : Step} {refusal : ℕ} {found : Bool} {x : Extent} (and : MayTake 0x01414e44 t from found next) where
+module _ {t : List ℕ} {from next : Step} {refusal : ℕ} {found : Bool} {x : Extent} (and : MayTake code-and t from found next) where
   alone : {north : Side} → not found ≡ true → x ≡ bounded north noSide → LocatedSays (atAnd north) refusal t from next x
   unfolding placeStep
   alone {north} n e = record {
@@ -36,7 +37,7 @@ module _ {t : List ℕ} {from next : Step} {refusal : ℕ} {found : Bool} {x : E
     stands = and .stands;
   }
 
-  second : {north : Side} {code side : ℕ} {past to : Step} → not found ≡ false → code ≡ codeOf (part (next .place) (next .end) t) → SideSays code 69 87 side
+  second : {north : Side} {code side : ℕ} {past to : Step} → not found ≡ false → code ≡ codeOf (wordOn t next) → SideSays code 69 87 side
       → Judged t next (not (eqb side 0)) refusal past → LocatedSays (atLongitudeOf north side) refusal t past to x → LocatedSays (atAnd north) refusal t from to x
   unfolding placeStep
   second {north} n e letter judged east =
@@ -53,8 +54,8 @@ returns c = search (alone, needs)
 returns-2 : tie.Need-returns-2
 returns-2 c = search (second, needs)
 
-pub read-after-north-spec : {M : Type 1} → statement M
-read-after-north-spec =
+pub read-second-bound-spec : {M : Type 1} → statement M
+read-second-bound-spec =
     tie.close
     (tie.spec (λ c κs. search needs) (λ c κs. search needs) returns (λ c κs. search needs) (λ c κs. search needs)
     (λ c κs. search needs) (λ c κs. search needs) returns-2)

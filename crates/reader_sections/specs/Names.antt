@@ -17,11 +17,7 @@ use Rattle.grammar.specs.States.Move.{goes}
 use Rattle.grammar.specs.States.{State, Move}
 use Rattle.grammar.specs.Steps.{goesIf, grown, begun, goneOn, step}
 use Rattle.reader_sections.specs.declared.steps.Step.{Step}
-use Rattle.reader_sections.specs.Steps.{wordFrom, Stands, Leads}
-
--- the word at a step
-abbrev pub wordOn : List ℕ → Step → List ℕ
-wordOn t p = part (p .place) (p .end) t
+use Rattle.reader_sections.specs.Steps.{wordOn, wordFrom, Stands, Leads}
 
 -- whether it is one of a name, with room for it behind so many bytes
 pub record BelongsSays (mountain : Bool) (limit used : ℕ) (t : List ℕ) (from : Step) (found : Bool) : Type 0 where
