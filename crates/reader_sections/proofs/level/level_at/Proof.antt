@@ -19,7 +19,7 @@ level : {t : List ℕ} {from to : Step} {l : Level} {empty : Bool} → Stands t 
 level f e b j = takes f j level-none e (ap not b ∙ level-good _ _ e)
 
 returns : tie.Need-returns
-returns c = search (level, needs)
+returns c = level (search needs) (search needs) (c .before .empty-level .ensures) (c .judged .ensures)
 
 pub level-at-spec : {M : Type 1} → statement M
 level-at-spec =

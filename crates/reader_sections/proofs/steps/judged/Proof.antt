@@ -11,7 +11,7 @@ returns-2 : tie.Need-returns-2
 returns-2 c = search (judged-stays, needs)
 
 returns-3 : tie.Need-returns-3
-returns-3 c = search (judged-bad, needs)
+returns-3 c = judged-bad (search needs) (search needs) (search needs) (search needs)
 
 pub judged-spec : {M : Type 1} → statement M
 judged-spec = tie.close (tie.spec (λ c κs. search needs) returns returns-2 returns-3)
