@@ -10,8 +10,8 @@ use Rattle.lists.specs.Choice.{both}
 use Rattle.lists.proofs.Choice.{by, clash, both-left, both-right, both-true, both-four, pick-true, pick-false}
 use Rattle.groups.specs.declared.Group.{Group}
 use Rattle.calendar.specs.Gregorian.{monthLength, firstDay, dayFrom, dayOfMonth, never, Falls}
-use Rattle.calendar.specs.Instants.{matches, minuteOn, onDay, orElse, instantIn, startOf, limitOf, endOf, targetOf}
-use Rattle.calendar.specs.Declared.{Has, IsStart, IsEnd, IsTarget}
+use Rattle.calendar.specs.Instants.{matches, minuteOn, onDay, orElse, instantIn, startOf, endOf, targetOf}
+use Rattle.calendar.specs.Declared.{limitOf, Has, IsStart, IsEnd, IsTarget}
 use Rattle.calendar.proofs.MonthLaws.{first-gap, day-of-month}
 use Rattle.calendar.proofs.CenturyLaws.{falls-some}
 

@@ -2,9 +2,10 @@
 -- Assumes nothing.
 use mathlib.Core.Path.{_≡_}
 use Prim.Native.Nat.{ℕ, _+_, _/_, _%_, _≤_, _<_}
+use lib.Dec.{eqb}
+use Rattle.lists.specs.Choice.{pick}
 use Rattle.groups.specs.declared.Group.{Group}
 use Rattle.calendar.specs.Gregorian.{firstDay, never, Falls}
-use Rattle.calendar.specs.Instants.{limitOf}
 
 -- an instant "that has that day, hour and minute": its day falls in some month of the hundred years, and is that day of the month
 pub record Has (g : Group) (t : ℕ) : Type 0 where
@@ -20,6 +21,10 @@ pub record IsStart (clock : ℕ) (g : Group) (t : ℕ) : Type 0 where
   pub has : Has g t
   pub no-earlier : clock ≤ t + 1440
   pub no-later : t ≤ clock + 1440
+
+-- "at most 240 minutes later for WS and 360 for WV": 2 is WS
+abbrev pub limitOf : ℕ → ℕ
+limitOf kind = pick (eqb kind 2) 240 360
 
 -- "The end is the first such instant after the start, at most 240 minutes later for WS and 360 for WV."
 pub record IsEnd (kind start : ℕ) (g : Group) (t : ℕ) : Type 0 where

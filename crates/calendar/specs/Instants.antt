@@ -8,6 +8,7 @@ use lib.Dec.{leb, ltb, eqb}
 use Rattle.lists.specs.Choice.{pick, both}
 use Rattle.groups.specs.declared.Group.{Group}
 use Rattle.calendar.specs.Gregorian.{dayOfMonth, never}
+use Rattle.calendar.specs.Declared.{limitOf}
 
 -- an instant "that has that day, hour and minute"
 unfoldable pub matches : Group → ℕ → Bool
@@ -36,10 +37,6 @@ instantIn g low high =
 -- "the one instant within 1,440 minutes of the clock, either side, both ends counted"
 unfoldable pub startOf : ℕ → Group → ℕ
 startOf clock g = instantIn g (clock - 1440) (clock + 1441)
-
--- "at most 240 minutes later for WS and 360 for WV": 2 is WS
-abbrev pub limitOf : ℕ → ℕ
-limitOf kind = pick (eqb kind 2) 240 360
 
 -- "the first such instant after the start, at most …"
 unfoldable pub endOf : ℕ → ℕ → Group → ℕ

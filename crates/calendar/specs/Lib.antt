@@ -1,3 +1,3 @@
 pub mod Gregorian
-pub mod Instants
 pub mod Declared
+pub mod Instants

@@ -1,7 +1,8 @@
 // Groups of day, hour and minute to instants: whole minutes from 2000-01-01 0000Z to the end of 2099.
 ghost use mathlib.Core.Path.{_≡_};
 ghost use Prim.Native.Nat.{_+_, _-_, _≤_};
-ghost use Rattle.calendar.specs.Instants.{onDay, instantIn, startOf, limitOf, endOf, targetOf};
+ghost use Rattle.calendar.specs.Declared.{limitOf};
+ghost use Rattle.calendar.specs.Instants.{onDay, instantIn, startOf, endOf, targetOf};
 
 mod months;
 mod table;

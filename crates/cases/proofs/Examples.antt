@@ -27,7 +27,8 @@ use Rattle.message.specs.Reports.{phenomena, phenomenonWords, observationWords,
 use Rattle.message.specs.Words.{headingWords, lineWords, areaWords, testTexts, formWords, bodyWords, textOf}
 use Rattle.grammar.specs.Placing.{pointed, locating, placeStep}
 use Rattle.cases.specs.Published.{ReadsBack, thunderstorms, duststorms, sandstorms, turbulence, mountainWaves, icing, radioactiveCloud, cancelled, ashCancelled, sakurajima, kelut, kelutJoined}
-use Rattle.grammar.specs.Reads.{readOf, refusal}
+use Rattle.grammar.specs.Bulletins.{refusal}
+use Rattle.grammar.specs.Reads.{readOf}
 use Rattle.grammar.specs.Runs.{run, runAt}
 use Rattle.grammar.specs.declared.Reply.{Reply}
 use Rattle.grammar.specs.Steps.{cancels, stormWords, stepForm, stepLevel, stepEnding, step}

@@ -27,7 +27,8 @@ use Rattle.message.specs.Sample.{sample, sampleText}
 use Rattle.message.specs.Words.{testTexts}
 use Rattle.cases.specs.Cases.{reporting, eastOf, E180, bulletin, saying, ashSaying, laterSaying, located, meridianOutline, sevenOutline, testing, testingFifty, cancelling, eruptionText, eruptionRecord, correctedText, correctedRecord}
 use Rattle.grammar.specs.Placing.{pointed, locating, placeStep}
-use Rattle.grammar.specs.Reads.{readOf, acceptance, refusal}
+use Rattle.grammar.specs.Bulletins.{acceptance, refusal}
+use Rattle.grammar.specs.Reads.{readOf}
 use Rattle.grammar.specs.Runs.{run, runAt}
 use Rattle.grammar.specs.Steps.{stormWords, cancels, stepForm, stepLevel, stepEnding, step}
 use Rattle.grammar.specs.declared.Reply.{Reply}

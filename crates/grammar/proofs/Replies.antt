@@ -17,7 +17,8 @@ use Rattle.message.specs.Records.{good}
 use Rattle.message.specs.declared.Record.{Record}
 use Rattle.grammar.specs.Judged.{messageWords}
 use Rattle.grammar.specs.Parts.{Marked}
-use Rattle.grammar.specs.Reads.{replyOf, textIn, readOf}
+use Rattle.grammar.specs.Bulletins.{textIn}
+use Rattle.grammar.specs.Reads.{replyOf, readOf}
 use Rattle.grammar.specs.Replies.{Replied}
 use Rattle.grammar.specs.Replies.Replied.{unreadable, readAs, refusedAs}
 use Rattle.grammar.specs.Runs.{walk, Ran, run, runAt}

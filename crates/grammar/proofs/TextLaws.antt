@@ -31,7 +31,8 @@ use Rattle.message.proofs.Goodness.{good-parts, heading-parts}
 use Rattle.grammar.specs.Judged.{messageWords}
 use Rattle.grammar.specs.Layout.{headingCount, laidOut, Canonical}
 use Rattle.grammar.specs.Numbers.{numberOf}
-use Rattle.grammar.specs.Reads.{acceptance, replyOf, textIn, readOf}
+use Rattle.grammar.specs.Bulletins.{acceptance, textIn}
+use Rattle.grammar.specs.Reads.{replyOf, readOf}
 use Rattle.grammar.specs.Runs.{Ran, follow, run, runAt}
 use Rattle.grammar.specs.Runs.Ran.{accepted, refused, unfinished}
 use Rattle.grammar.specs.States.{State, Move}

@@ -14,7 +14,8 @@ use Rattle.message.specs.Words.{wordsOf, textOf}
 use Rattle.message.specs.declared.Record.{Record}
 use Rattle.grammar.specs.Judged.{messageWords, bytesOf, Whole, RefusedAt}
 use Rattle.grammar.specs.Layout.{Canonical}
-use Rattle.grammar.specs.Reads.{acceptance, readOf}
+use Rattle.grammar.specs.Bulletins.{acceptance}
+use Rattle.grammar.specs.Reads.{readOf}
 use Rattle.grammar.specs.Replies.{Replied}
 use Rattle.grammar.specs.Runs.{walk, run}
 use Rattle.grammar.specs.Runs.Ran.{accepted, refused}

@@ -10,7 +10,7 @@ use Rattle.lists.specs.Text.{bytes}
 use Rattle.words.specs.Words.{wordsIn, line}
 use Rattle.headings.specs.Headings.{correctionOf, goodCorrection}
 use Rattle.message.specs.Words.{newLine}
-use Rattle.grammar.specs.Reads.{textIn}
+use Rattle.grammar.specs.Bulletins.{textIn}
 
 -- the heading has three words, and a fourth where that is a correction; the first line has six
 abbrev pub headingCount : List (List ℕ) → ℕ

@@ -4,6 +4,7 @@ pub mod Placing
 pub mod Steps
 pub mod Numbers
 pub mod Runs
+pub mod Bulletins
 pub mod Reads
 pub mod Parts
 pub mod Judged

@@ -3,33 +3,19 @@
 use mathlib.Core.List.{List}
 use Prim.Native.Nat.{ℕ}
 use lib.Dec.{eqb}
-use lib.ListN.{take}
 use Rattle.lists.specs.Choice.{pick}
 use Rattle.words.specs.Check.{checkOf}
-use Rattle.message.specs.Empty.{noRecord}
-use Rattle.message.specs.declared.Record.{Record}
+use Rattle.grammar.specs.Bulletins.{acceptance, refusal, textIn}
 use Rattle.grammar.specs.Runs.{Ran, runAt}
 use Rattle.grammar.specs.Runs.Ran.{accepted, refused, unfinished}
 use Rattle.grammar.specs.States.State.{atDesignator}
 use Rattle.grammar.specs.declared.Reply.{Reply}
-
--- "the refusal number (0 if none), …, the place (0 if none)"
-abbrev pub acceptance : Record → Reply
-acceptance r = record { number = 0; place = 0; message = r }
-
--- "A refusal returns an empty record, all zero."
-abbrev pub refusal : ℕ → ℕ → Reply
-refusal number place = record { number = number; place = place; message = noRecord }
 
 -- the words of a text end with its `=`, so that none is unfinished; it would lack its `=`
 abbrev pub replyOf : Ran → Reply
 replyOf (accepted r) = acceptance r
 replyOf (refused number place) = refusal number place
 replyOf unfinished = refusal 3 0
-
--- what stands before the first `=`
-abbrev pub textIn : List ℕ → List ℕ
-textIn b = take (checkOf b .place) b
 
 -- "Reader, in this order": 1 to 3, then the words
 unfoldable pub readOf : List ℕ → Reply

@@ -9,7 +9,7 @@ use Rattle.words.specs.Words.{wordsIn, wordsAt}
 use Rattle.message.specs.Records.{good}
 use Rattle.message.specs.declared.Record.{Record}
 use Rattle.grammar.specs.Judged.{messageWords, RefusedAt}
-use Rattle.grammar.specs.Reads.{acceptance, refusal, textIn}
+use Rattle.grammar.specs.Bulletins.{acceptance, refusal, textIn}
 use Rattle.grammar.specs.declared.Reply.{Reply}
 
 pub data Replied (b : List ℕ) : Reply → Type 0 where

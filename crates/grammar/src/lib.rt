@@ -1,6 +1,6 @@
 // The reply of the reader, and a refusal. The grammar itself is a definition, in specs/: no code runs it.
 ghost use mathlib.Core.Path.{_≡_};
-ghost use Rattle.grammar.specs.Reads.{refusal as refusalOf};
+ghost use Rattle.grammar.specs.Bulletins.{refusal as refusalOf};
 use message::NO_RECORD;
 use message::Record;
 

@@ -17,9 +17,9 @@ use Rattle.board.specs.declared.Board.{Board}
 use Rattle.board.proofs.RefusalLaws.{unrefused-parts}
 use Rattle.board.proofs.Invariant.{board-parts}
 use Rattle.listing.specs.Rows.{IsRows, rowsOf}
-use Rattle.listing.specs.Holding.{rowsIn, HoldsRows}
+use Rattle.listing.specs.Holding.{rowsIn, HoldsRows, PutsListing}
 use Rattle.pens.specs.Outcomes.{wrote}
-use Rattle.listing.specs.Listings.{listingOf, listOf, PutsListing}
+use Rattle.listing.specs.Answers.{listingOf, listOf}
 use Rattle.pens.specs.declared.Written.{Written}
 use Rattle.listing.specs.declared.rows.Rows.{Rows}
 use Rattle.listing.proofs.RowLaws.{rows-are, listing-length, listing-most}

@@ -1,4 +1,5 @@
 pub mod Order
 pub mod Rows
-pub mod Holding
 pub mod Listings
+pub mod Answers
+pub mod Holding

@@ -2,18 +2,12 @@
 -- 3 (WV), 16 bytes: area 4, sequence 3 padded, correction 1 (space or letter), start 4, end 4. Numbers are big-endian. Kind 1 comes first".
 -- Assumes nothing.
 use mathlib.Core.List.{List, [], _∷_, _++_}
-use mathlib.Core.Path.{_≡_}
 use Prim.Native.Char.{code}
 use Prim.Native.Nat.{ℕ}
-use lib.Dec.{ltb, eqb}
-use lib.ListN.{length, drop}
+use lib.Dec.{eqb}
 use Rattle.lists.specs.Choice.{pick}
 use Rattle.figures.specs.Letters.{inLetters}
-use Rattle.pens.specs.Outcomes.{Wrote, unwritten, written}
 use Rattle.places.specs.declared.Place.{Place}
-use Rattle.board.specs.Boards.{refusalAt}
-use Rattle.board.specs.declared.Board.{Board}
-use Rattle.listing.specs.Rows.{rowsOf}
 
 -- "kind 1, the time asked (4 bytes)"
 unfoldable pub timeRecord : ℕ → List ℕ
@@ -39,18 +33,3 @@ records (p ∷ ps) = messageRecord p ++ records ps
 -- "Kind 1 comes first, and each record goes in from the place where the one before it ended."
 abbrev pub listing : ℕ → List Place → List ℕ
 listing time rows = timeRecord time ++ records rows
-
-unfoldable pub listingOf : ℕ → List Place → List ℕ
-listingOf time places = listing time (rowsOf time places)
-
--- "Listing: 36, 16, 17, then 14 (count 0, buffer untouched)."
-unfoldable pub listOf : Board → ℕ → List ℕ → Wrote
-listOf b time buffer =
-    pick (eqb (refusalAt b time) 0)
-    (pick (ltb (length buffer) (length (listingOf time (b .places)))) (unwritten 14 buffer) (written (listingOf time (b .places)) buffer))
-    (unwritten (refusalAt b time) buffer)
-
--- rows written at the front of a page, with the count of bytes
-pub record PutsListing (time : ℕ) (rows : List Place) (page : List ℕ) (count : ℕ) (after : List ℕ) : Type 0 where
-  pub counted : count ≡ length (listing time rows)
-  pub leaves : after ≡ listing time rows ++ drop (length (listing time rows)) page

@@ -4,8 +4,9 @@ ghost use Prim.Native.Nat.{_+_, _*_, _≤_};
 ghost use lib.ListN.{length};
 ghost use Rattle.pens.specs.Outcomes.{wrote};
 ghost use Rattle.pens.specs.Pens.{Puts};
-ghost use Rattle.listing.specs.Holding.{rowsIn};
-ghost use Rattle.listing.specs.Listings.{timeRecord, correctionByte, messageRecord, listOf, PutsListing};
+ghost use Rattle.listing.specs.Holding.{rowsIn, PutsListing};
+ghost use Rattle.listing.specs.Listings.{timeRecord, correctionByte, messageRecord};
+ghost use Rattle.listing.specs.Answers.{listOf};
 
 mod ordering;
 mod rows;

@@ -12,7 +12,7 @@ use Rattle.words.proofs.Ranges.{between-low}
 use Rattle.figures.specs.Letters.{goodLetters}
 use Rattle.headings.specs.Headings.{typeWords, goodType}
 use Rattle.calendar.specs.Gregorian.{never}
-use Rattle.calendar.specs.Instants.{limitOf}
+use Rattle.calendar.specs.Declared.{limitOf}
 use Rattle.places.specs.Padded.{heldSequence}
 use Rattle.places.specs.Places.{sameIdentity, noIdentity, noPlace, emptyPlace, heldIdentity, heldCorrection, heldPlace, goodPlace}
 use Rattle.places.specs.declared.Identity.{Identity}

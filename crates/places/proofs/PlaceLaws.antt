@@ -11,7 +11,7 @@ use Rattle.lists.proofs.Choice.{by, both-false-right}
 use Rattle.figures.specs.Letters.{goodLetters}
 use Rattle.headings.specs.Headings.{typeWords, goodType}
 use Rattle.calendar.specs.Gregorian.{never}
-use Rattle.calendar.specs.Instants.{limitOf}
+use Rattle.calendar.specs.Declared.{limitOf}
 use Rattle.places.specs.Padded.{heldSequence}
 use Rattle.places.specs.Places.{heldIdentity}
 use Rattle.places.specs.declared.Identity.{Identity}

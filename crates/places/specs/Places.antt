@@ -8,7 +8,7 @@ use Rattle.lists.specs.Choice.{both, either}
 use Rattle.figures.specs.Letters.{goodLetters}
 use Rattle.headings.specs.Headings.{goodType, goodCorrection}
 use Rattle.calendar.specs.Gregorian.{never}
-use Rattle.calendar.specs.Instants.{limitOf}
+use Rattle.calendar.specs.Declared.{limitOf}
 use Rattle.places.specs.Padded.{heldSequence}
 use Rattle.places.specs.declared.Identity.{Identity}
 use Rattle.places.specs.declared.Place.{Place}

@@ -10,7 +10,8 @@ use lib.Dec.{ltb, eqb}
 use lib.ListN.{length}
 use Rattle.lists.proofs.Choice.{by, determined}
 use Rattle.message.specs.declared.Record.{Record}
-use Rattle.grammar.specs.Reads.{acceptance, readOf}
+use Rattle.grammar.specs.Bulletins.{acceptance}
+use Rattle.grammar.specs.Reads.{readOf}
 use Rattle.grammar.specs.Replies.{Replied}
 use Rattle.grammar.specs.Replies.Replied.{unreadable, readAs, refusedAs}
 use Rattle.pens.specs.Outcomes.{Wrote}
@@ -31,7 +32,7 @@ use Rattle.board.proofs.RefusalLaws.{bad-refusal, good-refusal}
 use Rattle.board.proofs.SettleLaws.{spot-36}
 use Rattle.board.proofs.PostLaws.{refused-unchanged}
 use Rattle.pens.specs.Outcomes.{Wrote}
-use Rattle.listing.specs.Listings.{listingOf, listOf}
+use Rattle.listing.specs.Answers.{listingOf, listOf}
 use Rattle.listing.proofs.ListLaws.{refused-untouched}
 use Rattle.promises.specs.Calls.{MayPost, MayList}
 use Rattle.promises.specs.Demand1.{Demand1}

@@ -7,7 +7,8 @@ use native.Mathlib.Omega.{arith}
 use lib.ListN.{length, drop, getD}
 use Rattle.message.specs.Sample.{sample, sampleText}
 use Rattle.message.specs.declared.Record.{Record}
-use Rattle.grammar.specs.Reads.{acceptance, readOf}
+use Rattle.grammar.specs.Bulletins.{acceptance}
+use Rattle.grammar.specs.Reads.{readOf}
 use Rattle.grammar.specs.declared.Reply.{Reply}
 use Rattle.cases.specs.Cases.{cancelling, laterSaying}
 use Rattle.cases.proofs.Readings.{sample-read, cancellation-read}

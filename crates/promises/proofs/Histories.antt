@@ -17,7 +17,7 @@ use Rattle.places.specs.declared.Place.{Place}
 use Rattle.listing.specs.Order.{Precedes}
 use Rattle.listing.specs.Rows.{rowsOf}
 use Rattle.pens.specs.Outcomes.{Wrote}
-use Rattle.listing.specs.Listings.{listOf}
+use Rattle.listing.specs.Answers.{listOf}
 use Rattle.listing.proofs.ListLaws.{count-most}
 use Rattle.listing.proofs.OrderLaws.{precedes-irreflexive}
 use Rattle.promises.specs.Calls.{Call, History, MayBegin, MayPost, MayList, Run, Happens}

@@ -20,7 +20,7 @@ use Rattle.board.proofs.Invariant.{board-parts}
 use Rattle.listing.specs.Order.{Before, precedes}
 use Rattle.listing.specs.Rows.{inForce, selected, inserted, sortedAfter, rowsOf}
 use Rattle.pens.specs.Outcomes.{Wrote}
-use Rattle.listing.specs.Listings.{listingOf, listOf}
+use Rattle.listing.specs.Answers.{listingOf, listOf}
 use Rattle.listing.proofs.OrderLaws.{precedes-irreflexive, precedes-transitive}
 use Rattle.listing.proofs.RowLaws.{rows-ordered, rows-most}
 use Rattle.promises.specs.Calls.{History}

@@ -34,7 +34,8 @@ use Rattle.places.specs.Claims.{reportPlace, targetPlace, ending, cancels, time
 use Rattle.board.specs.Posts.{dropped, objection, spotOf, placeAt, settled, claimedOn, postOf}
 use Rattle.listing.specs.Rows.{inForce, selected, inserted, sortedAfter, rowsOf}
 use Rattle.pens.specs.Outcomes.{written}
-use Rattle.listing.specs.Listings.{timeRecord, messageRecord, records, listingOf, listOf}
+use Rattle.listing.specs.Listings.{timeRecord, messageRecord, records}
+use Rattle.listing.specs.Answers.{listingOf, listOf}
 use Rattle.board.specs.declared.Board.{Board}
 use Rattle.places.specs.declared.Identity.{Identity}
 use Rattle.places.specs.declared.Place.{Place}

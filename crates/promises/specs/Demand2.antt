@@ -14,7 +14,7 @@ use Rattle.message.specs.Words.{wordsOf, textOf}
 use Rattle.message.specs.declared.Record.{Record}
 use Rattle.grammar.specs.Judged.{messageWords}
 use Rattle.grammar.specs.Layout.{Canonical}
-use Rattle.grammar.specs.Reads.{acceptance, textIn}
+use Rattle.grammar.specs.Bulletins.{acceptance, textIn}
 use Rattle.grammar.specs.declared.Reply.{Reply}
 use Rattle.pens.specs.declared.Written.{Written}
 

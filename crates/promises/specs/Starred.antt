@@ -15,7 +15,8 @@ use Rattle.coordinates.specs.Coordinates.{northSouth, coordinateOf, goodCoordin
 use Rattle.message.specs.Sample.{dayAndTime, sample, sampleText}
 use Rattle.message.specs.Words.{textOf}
 use Rattle.message.specs.declared.Record.{Record}
-use Rattle.grammar.specs.Reads.{acceptance, refusal, readOf}
+use Rattle.grammar.specs.Bulletins.{acceptance, refusal}
+use Rattle.grammar.specs.Reads.{readOf}
 use Rattle.cases.specs.Cases.{reporting, laterSaying, eastOf, E180, cancelling}
 use Rattle.calendar.specs.Gregorian.{firstDay}
 use Rattle.calendar.specs.Instants.{startOf, endOf}
@@ -23,7 +24,7 @@ use Rattle.board.specs.Boards.{emptyBoard}
 use Rattle.board.specs.Posts.{postOf}
 use Rattle.board.specs.declared.Board.{Board}
 use Rattle.pens.specs.Outcomes.{written}
-use Rattle.listing.specs.Listings.{listOf}
+use Rattle.listing.specs.Answers.{listOf}
 
 -- bytes in hex: two figures each, 0 to 9 and A to F
 abbrev pub nibble : ℕ → ℕ

@@ -14,7 +14,8 @@ use Rattle.figures.specs.Codes.{codeOf, FixedWord}
 use Rattle.figures.proofs.CodeLaws.{same-code}
 use Rattle.headings.specs.Headings.{correctionOf, goodCorrection}
 use Rattle.message.specs.declared.Record.{Record}
-use Rattle.grammar.specs.Reads.{replyOf, acceptance, refusal}
+use Rattle.grammar.specs.Bulletins.{acceptance, refusal}
+use Rattle.grammar.specs.Reads.{replyOf}
 use Rattle.grammar.specs.Runs.Ran.{refused}
 use Rattle.grammar.specs.Runs.{runAt}
 use Rattle.grammar.specs.States.Move.{goes}

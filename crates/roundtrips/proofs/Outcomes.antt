@@ -13,7 +13,8 @@ use Rattle.lists.proofs.Choice.{by, clash}
 use Rattle.message.specs.Records.{good}
 use Rattle.message.specs.Words.{textOf}
 use Rattle.message.specs.declared.Record.{Record}
-use Rattle.grammar.specs.Reads.{acceptance, readOf}
+use Rattle.grammar.specs.Bulletins.{acceptance}
+use Rattle.grammar.specs.Reads.{readOf}
 use Rattle.grammar.specs.Replies.{Replied}
 use Rattle.grammar.specs.Replies.Replied.{unreadable, readAs, refusedAs}
 use Rattle.grammar.specs.Writes.{writeOf}

@@ -6,8 +6,7 @@ use lib.ListN.{length, take}
 use borrow.Author.Needs.{needs}
 use borrow.Rule.Slice.PartMut.{putMid}
 use Rattle.lists.proofs.Sweeps.{length-mapped}
-use Rattle.listing.specs.Holding.{rowsIn}
-use Rattle.listing.specs.Listings.{PutsListing}
+use Rattle.listing.specs.Holding.{rowsIn, PutsListing}
 use Rattle.listing.proofs.Loops.{lists-none, lists-more, lists-all, lists-at, lists-long}
 use Rattle.listing.proofs.put_listing.Statement.{statement}
 use Rattle.listing.proofs.put_listing.Tie as tie

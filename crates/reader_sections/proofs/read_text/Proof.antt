@@ -9,7 +9,8 @@ use Rattle.message.specs.declared.Form.{Form}
 use Rattle.message.specs.declared.Heading.{Heading}
 use Rattle.message.specs.declared.Report.{Report}
 use Rattle.grammar.specs.declared.Reply.{Reply}
-use Rattle.grammar.specs.Reads.{replyOf, acceptance, refusal}
+use Rattle.grammar.specs.Bulletins.{acceptance, refusal}
+use Rattle.grammar.specs.Reads.{replyOf}
 use Rattle.grammar.specs.Records.{formed}
 use Rattle.grammar.specs.Runs.{runAt}
 use Rattle.grammar.specs.States.State.{atDesignator}
