@@ -3,6 +3,7 @@ pub mod Held
 pub mod Tracks
 pub mod Room
 pub mod Answering
+pub mod OrderLaws
 pub mod Listing
 pub mod Histories
 pub mod Contracts

@@ -1,6 +1,7 @@
 pub mod Calls
 pub mod Accepted
 pub mod Answers
+pub mod Order
 pub mod InForce
 pub mod Demand1
 pub mod Demand2
