@@ -7,6 +7,7 @@ pub mod OrderLaws
 pub mod Listing
 pub mod Histories
 pub mod Contracts
+pub mod CoordinateLaws
 pub mod StarredLaws
 pub mod FraudLaws
 pub mod FunctionLaws

@@ -1,11 +1,11 @@
 -- The order of the listing: of held identities, the order of the numbers that are kept is that of the characters; and these are as written.
 -- Assumes nothing.
-use mathlib.Core.Bool.{Bool, true, false, Bool-set}
-use mathlib.Core.List.{List, [], _∷_, _++_, List·Memᴰ, List·Memᴰ·head, List·Memᴰ·tail, Pairwise, Pairwise·nil, Pairwise·cons, Pairwise·of-cons, rel-of-pairwise-cons}
+use mathlib.Core.Bool.{Bool, true, Bool-set}
+use mathlib.Core.List.{List, [], _∷_, List·Memᴰ, List·Memᴰ·head, List·Memᴰ·tail, Pairwise, Pairwise·nil, Pairwise·cons, Pairwise·of-cons, rel-of-pairwise-cons}
 use mathlib.Core.Logic.{_↔_, ∥∥₁-elim}
-use mathlib.Core.Path.{_≡_, refl, sym, ap, subst, _∙_}
+use mathlib.Core.Path.{_≡_, refl, sym, ap, _∙_}
 use Prim.Native.Char.{code}
-use Prim.Native.Nat.{ℕ, _+_, _*_, _-_, _^_, _≤_, _<_}
+use Prim.Native.Nat.{ℕ, _+_, _*_, _^_, _≤_, _<_}
 use native.Mathlib.Nat.{suc-inj, min-le-right}
 use native.Mathlib.Omega.{arith}
 use lib.Dec.{ltb, eqb, lit<}
@@ -13,16 +13,14 @@ use lib.ListN.{length, length-take}
 use borrow.Author.Tests.{ltb-true, ltb-false, eqb-true}
 use Rattle.lists.specs.Choice.{both}
 use Rattle.lists.specs.Lists.{allOf, indexOf}
-use Rattle.lists.specs.Base.{worth, worthAfter, places}
+use Rattle.lists.specs.Base.{worth, worthAfter}
 use Rattle.lists.proofs.Choice.{by, both-left, both-right, both-true}
 use Rattle.lists.proofs.Lists.{all-take}
 use Rattle.lists.proofs.Base.{worth-places, places-worth, worth-lt, length-places, places-small}
 use Rattle.figures.specs.Letters.{inLetters, goodLetters}
 use Rattle.figures.proofs.LetterLaws.{good-lt}
-use Rattle.figures.proofs.ReadsLaws.{reads-spelled}
 use Rattle.headings.specs.Sequences.{goodSequence, sequenceOf, spellSequence}
 use Rattle.headings.specs.declared.Sequence.{Sequence}
-use Rattle.headings.proofs.SequenceLaws.{sequence-reads}
 use Rattle.message.specs.Words.{lineWords, areaWords}
 use Rattle.message.specs.declared.Record.{Record}
 use Rattle.message.proofs.Goodness.{good-parts, line-parts, area-parts}

@@ -7,5 +7,6 @@ pub mod Demand1
 pub mod Demand2
 pub mod Demand3
 pub mod Frauds
+pub mod Coordinates
 pub mod Starred
 pub mod Functions
