@@ -4,10 +4,9 @@ use mathlib.Core.Bool.{true, false}
 use mathlib.Core.Logic.{_↔_, inl, inr}
 use mathlib.Core.Path.{_≡_, refl, sym, subst, _∙_}
 use Prim.Native.Char.{code}
-use Prim.Native.Nat.{ℕ, zero, suc, _+_, _*_, _≤_, suc-le-suc}
-use lib.Dec.{eqb, leb→le}
-use lib.IntN.{ℤ, pos, negsuc, negℤ, natAbs}
-use lib.Signed.{_≤ℤ_}
+use Prim.Native.Nat.{ℕ, _+_, _*_, _≤_}
+use lib.Dec.{eqb}
+use lib.IntN.{ℤ, pos, negℤ, natAbs}
 use Rattle.lists.specs.Choice.{either}
 use Rattle.lists.specs.Lists.{allOf}
 use Rattle.lists.specs.Base.{worthAfter}
@@ -18,7 +17,7 @@ use Rattle.coordinates.specs.Coordinates.{Axis, northSouth, eastWest, coordinat
 use Rattle.coordinates.specs.Points.{apart, goodPoint, samePoint}
 use Rattle.coordinates.specs.declared.Coordinate.{Coordinate}
 use Rattle.coordinates.proofs.Axes.{latitude-reads, longitude-reads}
-use Rattle.coordinates.proofs.Range.{signed-range, abs-between, latitude-every, longitude-every}
+use Rattle.coordinates.proofs.Range.{signed-range, abs-between, between-abs, latitude-every, longitude-every}
 use Rattle.coordinates.proofs.Globe.{Meridian, same-point-is, same-point-refl, same-point-sym, same-point-trans}
 use Rattle.coordinates.proofs.Cases.{n00, s0000, n90, s90, e180, w18000, n00-is-s0000, e180-is-w18000}
 use Rattle.promises.specs.Coordinates.{IsValue, Within, OneMeridian, latitude, longitude, point, Coordinates}
@@ -34,11 +33,6 @@ module _ (c : Coordinate) where
   negative : (x : ℕ) → either (eqb x (code "S")) (eqb x (code "W")) ≡ true → c .letter ≡ x → signedOf c ≡ negℤ (pos (c .degrees * 60 + c .minutes))
   unfolding signedOf
   negative x s e = rw (e, s)
-
-between-abs : (n : ℕ) (z : ℤ) → (negℤ (pos n) ≤ℤ z) × (z ≤ℤ pos n) → natAbs z ≤ n
-between-abs n (pos k) h = leb→le k n (h .1 .le)
-between-abs zero (negsuc k) h = absurd (h .0 .le)
-between-abs (suc n) (negsuc k) h = suc-le-suc (leb→le k n (h .0 .le))
 
 -- the range of an axis, where every value that is no greater is some coordinate's
 exactly : (a : Axis) → ((z : ℤ) → natAbs z ≤ a .greatest * 60 → (c : Coordinate) × ((goodCoordinate a c ≡ true) × (signedOf c ≡ z)))

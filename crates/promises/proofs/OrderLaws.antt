@@ -33,7 +33,7 @@ use Rattle.listing.specs.Order.Precedes.{by-area as area-less, by-type as type-
 use Rattle.promises.specs.Calls.{History}
 use Rattle.promises.specs.Accepted.{IsReport, Reported}
 use Rattle.promises.specs.Accepted.Reported.{report-now, report-before}
-use Rattle.promises.specs.Order.{TextBefore, ListedBefore, InOrder, paddedTo, OrderAsWritten}
+use Rattle.promises.specs.Order.{TextBefore, areaText, sequenceText, ListedBefore, InOrder, paddedTo, OrderAsWritten}
 use Rattle.promises.specs.Order.TextBefore.{here, further}
 use Rattle.promises.specs.Order.ListedBefore.{by-area, by-type, by-start, by-sequence, by-end}
 
@@ -131,32 +131,38 @@ held-small n h = rw (eqb-true (padded (unpadded n)) n (both-right (goodSequence 
 abbrev pub formed : Identity → Bool
 formed i = both (goodLetters 4 (i .area)) (heldSequence (i .sequence))
 
+area-small : (i : Identity) → formed i ≡ true → i .area < 256 ^ 4
+area-small i t = good-lt 4 (i .area) (both-left (goodLetters 4 (i .area)) (heldSequence (i .sequence)) t)
+
+sequence-small : (i : Identity) → formed i ≡ true → i .sequence < 256 ^ 3
+sequence-small i t = held-small (i .sequence) (both-right (goodLetters 4 (i .area)) (heldSequence (i .sequence)) t)
+
 module _ (a b : Identity) (f : formed a ≡ true) (g : formed b ≡ true) where
-  area-small : (i : Identity) → formed i ≡ true → i .area < 256 ^ 4
-  area-small i t = good-lt 4 (i .area) (both-left (goodLetters 4 (i .area)) (heldSequence (i .sequence)) t)
+  areas : (a .area < b .area) ↔ TextBefore (areaText a) (areaText b)
+  areas = text-order 4 (area-small a f) (area-small b g)
 
-  sequence-small : (i : Identity) → formed i ≡ true → i .sequence < 256 ^ 3
-  sequence-small i t = held-small (i .sequence) (both-right (goodLetters 4 (i .area)) (heldSequence (i .sequence)) t)
+  sequences : (a .sequence < b .sequence) ↔ TextBefore (sequenceText a) (sequenceText b)
+  sequences = text-order 3 (sequence-small a f) (sequence-small b g)
 
-  area : inLetters 4 (a .area) ≡ inLetters 4 (b .area) → a .area ≡ b .area
-  area = text-same 4 (area-small a f) (area-small b g)
+  one-area : areaText a ≡ areaText b → a .area ≡ b .area
+  one-area = text-same 4 (area-small a f) (area-small b g)
 
-  sequence : inLetters 3 (a .sequence) ≡ inLetters 3 (b .sequence) → a .sequence ≡ b .sequence
-  sequence = text-same 3 (sequence-small a f) (sequence-small b g)
+  one-sequence : sequenceText a ≡ sequenceText b → a .sequence ≡ b .sequence
+  one-sequence = text-same 3 (sequence-small a f) (sequence-small b g)
 
   forth : Precedes a b → ListedBefore a b
-  forth (area-less h) = by-area (text-order 4 (area-small a f) (area-small b g) .0 h)
+  forth (area-less h) = by-area (areas .0 h)
   forth (type-less e h) = by-type (ap (inLetters 4) e) h
   forth (start-less e k h) = by-start (ap (inLetters 4) e) k h
-  forth (sequence-less e k s h) = by-sequence (ap (inLetters 4) e) k s (text-order 3 (sequence-small a f) (sequence-small b g) .0 h)
+  forth (sequence-less e k s h) = by-sequence (ap (inLetters 4) e) k s (sequences .0 h)
   forth (end-less e k s n h) = by-end (ap (inLetters 4) e) k s (ap (inLetters 3) n) h
 
   back : ListedBefore a b → Precedes a b
-  back (by-area h) = area-less (text-order 4 (area-small a f) (area-small b g) .1 h)
-  back (by-type e h) = type-less (area e) h
-  back (by-start e k h) = start-less (area e) k h
-  back (by-sequence e k s h) = sequence-less (area e) k s (text-order 3 (sequence-small a f) (sequence-small b g) .1 h)
-  back (by-end e k s n h) = end-less (area e) k s (sequence n) h
+  back (by-area h) = area-less (areas .1 h)
+  back (by-type e h) = type-less (one-area e) h
+  back (by-start e k h) = start-less (one-area e) k h
+  back (by-sequence e k s h) = sequence-less (one-area e) k s (sequences .1 h)
+  back (by-end e k s n h) = end-less (one-area e) k s (one-sequence n) h
 
   pub held-order : Precedes a b ↔ ListedBefore a b
   held-order = (forth, back)

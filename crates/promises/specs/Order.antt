@@ -18,7 +18,7 @@ pub data TextBefore : List ℕ → List ℕ → Type 0 where
   here : {x y : ℕ} {xs ys : List ℕ} → x < y → TextBefore (x ∷ xs) (y ∷ ys)
   further : {x : ℕ} {xs ys : List ℕ} → TextBefore xs ys → TextBefore (x ∷ xs) (x ∷ ys)
 
--- "area 4", "sequence 3 padded"
+-- "area 4", "sequence 3 padded": a space stands before the digits and these before the letters, so 1, 10, 2, A1 is in the order
 abbrev pub areaText : Identity → List ℕ
 areaText i = inLetters 4 (i .area)
 
