@@ -1,5 +1,6 @@
 pub mod Messages
 pub mod Held
+pub mod Refusing
 pub mod Tracks
 pub mod Room
 pub mod Answering
