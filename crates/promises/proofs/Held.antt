@@ -93,7 +93,7 @@ pub data Goes (left : List Place) (p : Place) : (answer at : ℕ) → Type 0 whe
   free : {k : ℕ} → Unheld left (p .identity) → k < length left → emptyPlace (getD left k noPlace) ≡ true → Goes left p 0 k
   full : {k : ℕ} → Unheld left (p .identity) → allOf (λ (q : Place). not (emptyPlace q)) left ≡ true → Goes left p 23 k
 
-unheld : (left : List Place) (i : Identity) → length left ≤ indexOf (holds i) left → Unheld left i
+pub unheld : (left : List Place) (i : Identity) → length left ≤ indexOf (holds i) left → Unheld left i
 unheld left i h q o e =
     let none : not (holds i (getD left (o .at) noPlace)) ≡ true = all-at (λ (x : Place). not (holds i x)) left noPlace (index-all (holds i) left h) (o .at) (o .within) in
     let here : getD left (o .at) noPlace .identity ≡ i = ap (λ (x : Place). x .identity) (o .there) ∙ e in

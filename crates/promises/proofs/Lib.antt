@@ -10,3 +10,4 @@ pub mod Contracts
 pub mod StarredLaws
 pub mod FraudLaws
 pub mod FunctionLaws
+pub mod BoardAnswers
