@@ -1,5 +1,6 @@
 pub mod Messages
 pub mod Held
+pub mod Refusing
 pub mod Tracks
 pub mod Room
 pub mod Answering
@@ -11,3 +12,4 @@ pub mod CoordinateLaws
 pub mod StarredLaws
 pub mod FraudLaws
 pub mod FunctionLaws
+pub mod BoardAnswers
