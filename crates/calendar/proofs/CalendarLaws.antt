@@ -1,5 +1,4 @@
 -- What a start, an end and a target's start are found to be is what the paper says they are.
--- Assumes nothing.
 use mathlib.Core.Bool.{Bool, true, false}
 use mathlib.Core.Path.{_≡_, refl, sym, ap, subst, _∙_}
 use Prim.Native.Nat.{ℕ, _+_, _-_, _*_, _/_, _%_, _≤_, _<_}
@@ -9,8 +8,8 @@ use borrow.Author.Tests.{leb-true, leb-false, ltb-true, ltb-false, eqb-true, eqb
 use Rattle.lists.specs.Choice.{both}
 use Rattle.lists.proofs.Choice.{by, clash, both-left, both-right, both-true, both-four, pick-true, pick-false}
 use Rattle.groups.specs.declared.Group.{Group}
-use Rattle.calendar.specs.Gregorian.{monthLength, firstDay, dayFrom, dayOfMonth, never, Falls}
-use Rattle.calendar.specs.Instants.{matches, minuteOn, onDay, orElse, instantIn, startOf, endOf, targetOf}
+use Rattle.calendar.specs.Gregorian.{monthLength, firstDay, never, Falls}
+use Rattle.calendar.specs.Instants.{dayFrom, dayOfMonth, matches, minuteOn, onDay, orElse, instantIn, startOf, endOf, targetOf}
 use Rattle.calendar.specs.Declared.{limitOf, Has, IsStart, IsEnd, IsTarget}
 use Rattle.calendar.proofs.MonthLaws.{first-gap, day-of-month}
 use Rattle.calendar.proofs.CenturyLaws.{falls-some}

@@ -1,6 +1,5 @@
 -- Theorems c and d. The first dead word and its number: where a run is refused, the words before begin an accepted message and with this
 -- word they begin none; the number is that of the greatest part that may come next. And the converse.
--- Assumes nothing.
 use mathlib.Core.Bool.{true}
 use mathlib.Core.List.{List, [], _∷_, _++_, append-nil, map-append}
 use mathlib.Core.Logic.{_↔_}

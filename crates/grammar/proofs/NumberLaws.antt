@@ -1,6 +1,5 @@
 -- The numbers of the states: 4 to 12. A word that a state takes belongs to the part of that number, or is something optional of an earlier
 -- one. And no state goes on past the `=`.
--- Assumes nothing.
 use mathlib.Core.Bool.{true, false, not}
 use mathlib.Core.List.{List, []}
 use mathlib.Core.Logic.{_⊎_, inl, inr, ⊎-elim}

@@ -1,5 +1,4 @@
 -- The parts of a message: each word has a number from 4 to 11, and the `=` alone has 12; they come in the order of their numbers.
--- Assumes nothing.
 use mathlib.Core.Bool.{Bool, true, false}
 use mathlib.Core.List.{List, [], _∷_, _++_, List·Memᴰ, List·Memᴰ·head, List·Memᴰ·tail}
 use mathlib.Core.Path.{_≡_, refl, _∙_}

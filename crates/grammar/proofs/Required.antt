@@ -1,6 +1,5 @@
 -- "it is judged as the next required part": whatever words lead from a state to the end of a message, one of them belongs to the part of
 -- the state's number.
--- Assumes nothing.
 use mathlib.Core.Bool.{Bool, true, false}
 use mathlib.Core.List.{List, [], _∷_, _++_, List·Memᴰ, List·Memᴰ·head, List·Memᴰ·tail}
 use mathlib.Core.Logic.{⊎-elim}

@@ -1,6 +1,5 @@
 -- The theorems of the grammar, with nothing left open. They speak of `good`, `wordsOf` and `textOf` (crate message), of the words of a text
 -- (crate words), and of what is said without the machine in `Judged` and `Replies`; `step` stands in none but through `run`, `walk`, `readOf`.
--- Assumes nothing.
 use mathlib.Core.Bool.{true}
 use mathlib.Core.List.{List, [], _∷_, _++_, map, List·Memᴰ}
 use mathlib.Core.Logic.{_↔_}

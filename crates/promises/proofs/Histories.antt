@@ -1,5 +1,4 @@
 -- Demand 3 holds.
--- Assumes nothing.
 use mathlib.Core.Bool.{true}
 use mathlib.Core.List.{List, [], _∷_, _++_, Pairwise·imp}
 use mathlib.Core.Logic.{_↔_}

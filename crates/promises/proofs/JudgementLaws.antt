@@ -1,5 +1,4 @@
 -- The word that the reader refuses is judged as the paper says: what crate grammar has proved of words, said of the reader's replies.
--- Assumes nothing.
 use mathlib.Core.List.{List, _∷_}
 use mathlib.Core.Logic._⊎_.{inl, inr}
 use mathlib.Core.Path.{_≡_}

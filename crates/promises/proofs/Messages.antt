@@ -1,5 +1,4 @@
 -- What a message asks of a board, in the paper's words: a number that no board can change, or a place.
--- Assumes nothing.
 use mathlib.Core.Bool.{Bool, true, false}
 use mathlib.Core.Path.{_≡_, refl, sym, ap, subst, _∙_}
 use Prim.Native.Nat.{ℕ, _≤_, _<_}

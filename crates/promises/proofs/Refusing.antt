@@ -1,5 +1,4 @@
 -- The number of a post is the first one whose cause holds, by whatever is known of the places; and there is one such number.
--- Assumes nothing.
 use mathlib.Core.Bool.{true, false, not}
 use mathlib.Core.List.{List}
 use mathlib.Core.Path.{_≡_, refl, sym, ap, subst, _∙_}

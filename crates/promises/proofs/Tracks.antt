@@ -1,5 +1,4 @@
 -- After every history the board holds what the history has accepted and has not ended: by induction over the calls.
--- Assumes nothing.
 use mathlib.Core.Bool.{true, false}
 use mathlib.Core.List.{List, [], _∷_}
 use mathlib.Core.Logic.{_⊎_, inl, inr, ⊎-elim}

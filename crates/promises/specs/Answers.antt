@@ -1,5 +1,5 @@
--- The answer to a post by the history: "A post is turned away exactly for the causes numbered in the paper; room freed by ended messages is used
--- again." 36 has no cause: no history leads to a bad board.
+-- The answer to a post by the history: "A post is turned away exactly for the causes numbered in our paper, and room freed by ended messages is
+-- used again." 36 has no cause: no history leads to a bad board.
 -- Believed.
 use mathlib.Core.List.{List, List·Memᴰ, List·Nodup}
 use mathlib.Core.Path.{_≡_}
