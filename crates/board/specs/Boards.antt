@@ -1,5 +1,5 @@
 -- 01, "A good board has clock 0 or one in range; each held place has …; no identity is held twice. The empty board has clock 0."
--- Assumes nothing.
+-- Believed.
 use mathlib.Core.Bool.{Bool, true, not}
 use mathlib.Core.List.{List, [], _∷_}
 use Prim.Native.Nat.{ℕ}

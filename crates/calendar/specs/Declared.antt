@@ -1,5 +1,5 @@
 -- What a start, an end and a target's start are, in the paper's words.
--- Assumes nothing.
+-- Believed.
 use mathlib.Core.Path.{_≡_}
 use Prim.Native.Nat.{ℕ, _+_, _/_, _%_, _≤_, _<_}
 use lib.Dec.{eqb}

@@ -1,6 +1,6 @@
 -- 01, "Time is whole minutes from 2000-01-01 0000Z, by the Gregorian calendar to the end of 2099; there is no instant before or after."
 -- Days are counted from 2000-01-01 and months from January 2000, both from 0.
--- Assumes nothing.
+-- Believed.
 use mathlib.Core.Bool.{Bool, not}
 use mathlib.Core.List.{List, [], _∷_}
 use Prim.Native.Nat.{ℕ, zero, suc, _+_, _-_, _/_, _%_, _≤_, _<_}

@@ -1,7 +1,7 @@
 -- 01, "A start group means the one instant …. The end is the first such instant after the start, …. A cancellation's target …; its start is
 -- the latest matching instant before that, under the same limit." How each is found: the instant that has the group, if there is one,
 -- lies on one of three days. specs/Declared.antt says what each is; proofs/CalendarLaws.antt that the two agree.
--- Assumes nothing.
+-- Tied: `start-found`, `start-complete`, `end-found`, `end-complete`, `target-found`, `target-complete` (crates/calendar/proofs/CalendarLaws.antt).
 use mathlib.Core.Bool.{Bool}
 use Prim.Native.Nat.{ℕ, _+_, _-_, _*_, _/_, _%_}
 use lib.Dec.{leb, ltb, eqb}

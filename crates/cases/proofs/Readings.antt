@@ -25,7 +25,8 @@ use Rattle.motions.specs.Speeds.{unitWords, speedOf, goodSpeed}
 use Rattle.message.specs.Records.{namesItself}
 use Rattle.message.specs.Sample.{sample, sampleText}
 use Rattle.message.specs.Words.{testTexts}
-use Rattle.cases.specs.Cases.{reporting, eastOf, E180, bulletin, saying, ashSaying, laterSaying, located, meridianOutline, sevenOutline, testing, testingFifty, cancelling, eruptionText, eruptionRecord, correctedText, correctedRecord}
+use Rattle.cases.specs.Samples.{reporting, eastOf, E180, bulletin, laterSaying, located, cancelling}
+use Rattle.cases.specs.Cases.{saying, ashSaying, meridianOutline, sevenOutline, testing, testingFifty, eruptionText, eruptionRecord, correctedText, correctedRecord}
 use Rattle.grammar.specs.Placing.{pointed, locating, placeStep}
 use Rattle.grammar.specs.Bulletins.{acceptance, refusal}
 use Rattle.grammar.specs.Reads.{readOf}

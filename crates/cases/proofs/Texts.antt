@@ -28,7 +28,8 @@ use Rattle.message.specs.Sample.{sample, sampleText}
 use Rattle.message.specs.Words.{headingWords, lineWords, areaWords, testTexts, formWords, bodyWords, textOf}
 use Rattle.message.specs.declared.Record.{Record}
 use Rattle.grammar.specs.Writes.{writeOf}
-use Rattle.cases.specs.Cases.{reporting, eastOf, E180, saying, laterSaying, located, meridianOutline, sevenOutline, testing, testingFifty, cancelling, eruptionText, eruptionRecord, correctedText, correctedRecord}
+use Rattle.cases.specs.Samples.{reporting, eastOf, E180, laterSaying, located, cancelling}
+use Rattle.cases.specs.Cases.{saying, meridianOutline, sevenOutline, testing, testingFifty, eruptionText, eruptionRecord, correctedText, correctedRecord}
 
 -- the record is good, and that is its text
 pub record Shown (r : Record) (text : List ℕ) : Type 0 where

@@ -1,6 +1,5 @@
--- The cases of 01, "The program and the sample", that speak of reading: the sample's text with one thing changed in it. And further texts
--- that the paper describes, with their records given field by field.
--- Assumes nothing.
+-- Texts that the paper describes, with their records given field by field.
+-- Tied: `eruption-read` and its neighbours (crates/cases/proofs/Readings.antt).
 use mathlib.Core.Bool.{true, false}
 use mathlib.Core.List.{List, [], _∷_, _++_}
 use Prim.Native.Char.{code}
@@ -14,60 +13,19 @@ use Rattle.coordinates.specs.declared.Coordinate.{Coordinate}
 use Rattle.coordinates.specs.declared.Point.{Point}
 use Rattle.headings.specs.declared.Sequence.{Sequence}
 use Rattle.levels.specs.declared.Level.the-variants.{Band, TopAboveFlight}
-use Rattle.message.specs.Locations.{noSide, noExtent}
+use Rattle.message.specs.Locations.{noExtent}
 use Rattle.message.specs.Reports.{noVolcano, noReport}
-use Rattle.message.specs.Sample.{dayAndTime, sample}
-use Rattle.message.specs.Words.{newLine}
+use Rattle.message.specs.Sample.{dayAndTime}
 use Rattle.message.specs.declared.Area.{Area}
 use Rattle.message.specs.declared.Ending.the-variants.{Stationary, Forecast}
 use Rattle.message.specs.declared.Extent.{Extent}
 use Rattle.message.specs.declared.FirstLine.{FirstLine}
-use Rattle.message.specs.declared.Form.the-variants.{Test, Cancellation, Reported}
+use Rattle.message.specs.declared.Form.the-variants.{Test, Reported}
 use Rattle.message.specs.declared.Heading.{Heading}
 use Rattle.message.specs.declared.Location.the-variants.{Bounded, Outline, Entire}
 use Rattle.message.specs.declared.Name.{Name}
 use Rattle.message.specs.declared.Record.{Record}
-use Rattle.grammar.specs.Records.{bounded}
-
--- the sample with this text after `FIR SEV ICE FCST `
-abbrev pub reporting : String → List ℕ
-reporting rest =
-    bytes "WSZZ31 QAAA 180830"
-    ++ (newLine
-    ++ (bytes "QBBB SIGMET 1 VALID 180830/181230 QAAA-"
-    ++ (newLine ++ (bytes "QBBB NORTH SOUND FIR SEV ICE FCST " ++ bytes rest))))
-
--- the sample's record with another location
-abbrev pub located : Extent → Record
-located e =
-    record {
-      heading = sample .heading;
-      line = sample .line;
-      area = sample .area;
-      form = sample .form;
-      report =
-          record {
-            phenomenon = sample .report .phenomenon;
-            volcano = sample .report .volcano;
-            observation = sample .report .observation;
-            extent = e;
-            level = sample .report .level;
-            ending = sample .report .ending;
-            forecast = sample .report .forecast;
-          };
-    }
-
--- … with another longitude
-abbrev pub eastOf : Coordinate → Record
-eastOf c = located (bounded noSide (record { of = code "E"; at = c }))
-
--- E180
-abbrev pub E180 : Coordinate
-E180 = record { letter = code "E"; digits = 3; degrees = 180; minutes = 0 }
-
--- a bulletin of three lines
-abbrev pub bulletin : String → String → String → List ℕ
-bulletin heading line body = bytes heading ++ (newLine ++ (bytes line ++ (newLine ++ bytes body)))
+use Rattle.cases.specs.Samples.{bulletin}
 
 -- the sample's heading and first line, and this body; so too in a WV
 abbrev pub saying : String → List ℕ
@@ -75,10 +33,6 @@ saying body = bulletin "WSZZ31 QAAA 180830" "QBBB SIGMET 1 VALID 180830/181230 Q
 
 abbrev pub ashSaying : String → List ℕ
 ashSaying body = bulletin "WVZZ31 QAAA 180830" "QBBB SIGMET 1 VALID 180830/181230 QAAA-" body
-
--- sequence 2, of 181100/181230, and this body: a message that may cancel the sample
-abbrev pub laterSaying : String → List ℕ
-laterSaying body = bulletin "WSZZ31 QAAA 181100" "QBBB SIGMET 2 VALID 181100/181230 QAAA-" body
 
 -- The parts of the records, as the texts write them.
 
@@ -171,29 +125,6 @@ testingFifty =
       line = sampleLine sequenceOne;
       area = record { indicator = worth 256 (bytes "QBBB"); name = fiftyName; closing = 1 };
       form = Test 1;
-      report = noReport;
-    }
-
--- "Sequence 2, VALID 181100/181230, `CNL SIGMET 1 180830/181230`"
-abbrev pub cancelling : Record
-cancelling =
-    record {
-      heading =
-          record {
-            designator = record { kind = 2; region = worth 256 (bytes "ZZ"); number = 31 };
-            centre = worth 256 (bytes "QAAA");
-            sent = dayAndTime 18 11 0;
-            correction = 0;
-          };
-      line =
-          record {
-            unit = worth 256 (bytes "QBBB");
-            sequence = record { letter = 0; digits = 1; number = 2 };
-            valid = record { from = dayAndTime 18 11 0; to = dayAndTime 18 12 30 };
-            office = worth 256 (bytes "QAAA");
-          };
-      area = sampleArea 1;
-      form = Cancellation sequenceOne (dayAndTime 18 8 30);
       report = noReport;
     }
 

@@ -1,10 +1,10 @@
 -- The WS and WV examples of source document 002, with hyphens for its long dashes, laid out as canonical text.
--- Assumes nothing.
+-- Tied: `thunderstorms-read` and its neighbours (crates/cases/proofs/Examples.antt).
 use mathlib.Core.List.{List}
 use mathlib.Core.Path.{_≡_}
 use Prim.Native.Nat.{ℕ}
 use Rattle.message.specs.Words.{textOf}
-use Rattle.cases.specs.Cases.{bulletin}
+use Rattle.cases.specs.Samples.{bulletin}
 use Rattle.grammar.specs.Reads.{readOf}
 
 -- the text is read, and its record's canonical text is the text itself

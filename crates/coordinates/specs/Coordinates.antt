@@ -1,6 +1,6 @@
 -- 01, "Latitude: N or S and two or four digits, at most 90 degrees. Longitude: E or W and three or five digits, at most 180 degrees."
 -- Both are one definition over an axis. The record keeps letter and digits as written; the signed minutes are a function of them.
--- Assumes nothing.
+-- Believed.
 use mathlib.Core.Bool.{Bool}
 use mathlib.Core.List.{List, [], _∷_, _++_}
 use Prim.Native.Char.{code}

@@ -1,6 +1,6 @@
 -- 01, "A point is a latitude word and a longitude word." "Points are equal when their latitudes are equal and their longitudes differ
 -- by 0 or 21,600."
--- Assumes nothing.
+-- Believed.
 use mathlib.Core.Bool.{Bool}
 use mathlib.Core.List.{List, [], _∷_}
 use Prim.Native.Nat.{ℕ}

@@ -1,4 +1,4 @@
-// The text of a line. Its bytes stand for themselves but for `\r`, CR; `\n`, LF; `\s`, 128 spaces; and `\x` with two digits, any byte.
+// The text of a line. Its bytes stand for themselves but for `\r`, CR; `\n`, LF; `\s`, 128 spaces; and `\x` with two hexadecimal digits, any byte.
 ghost use Prim.Native.Nat.{_<_};
 ghost use lib.ListN.{length};
 ghost use Rattle.io.specs.Counts.{Counts};

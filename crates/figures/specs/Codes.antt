@@ -1,5 +1,5 @@
 -- A word of at most seven bytes has a code, one number that tells it: fixed words are compared and put by their codes.
--- Assumes nothing.
+-- Internal contract.
 use mathlib.Core.Bool.{Bool, true, false}
 use mathlib.Core.List.{List, [], _∷_, _++_}
 use mathlib.Core.Path.{_≡_}

@@ -1,5 +1,5 @@
 -- Decimal figures: what a run of them counts, and a number written in so many of them.
--- Assumes nothing.
+-- Believed.
 use mathlib.Core.List.{List, map}
 use Prim.Native.Nat.{ℕ, _+_, _-_}
 use lib.Dec.{leb, ltb}

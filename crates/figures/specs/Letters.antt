@@ -1,5 +1,5 @@
 -- Letters kept as one number, in base 256: equal numbers are equal letters, and the order is that of the text.
--- Assumes nothing.
+-- Believed.
 use mathlib.Core.Bool.{Bool}
 use mathlib.Core.List.{List}
 use Prim.Native.Nat.{ℕ, _^_}

@@ -1,5 +1,5 @@
 -- What every kind of word owes: a reader, a spelling, and which values are good.
--- Assumes nothing.
+-- Believed.
 use mathlib.Core.Bool.{Bool, true, false}
 use mathlib.Core.List.{List}
 use mathlib.Core.Logic.{_⊎_}

@@ -1,5 +1,5 @@
 -- Tables of fixed words that a record keeps as a number.
--- Assumes nothing.
+-- Believed.
 use mathlib.Core.Bool.{Bool, true, not}
 use mathlib.Core.List.{List, [], _∷_}
 use Prim.Native.Nat.{ℕ, _+_, _-_}

@@ -1,6 +1,6 @@
 -- 01, "For 4 to 12 the word is the first that, with those before it, begins no accepted message." What that says, of any list of words
 -- and without the machine: an accepted message is the words of a good record and the `=`.
--- Assumes nothing.
+-- Believed.
 use mathlib.Core.Bool.{true}
 use mathlib.Core.List.{List, [], _∷_, _++_, map}
 use mathlib.Core.Logic.{_⊎_}
@@ -52,7 +52,7 @@ pub record JudgedAs (ws : List (List ℕ)) (part : ℕ) : Type 0 where
 abbrev pub Numbered : List (List ℕ) → ℕ → Type 0
 Numbered ws number = JudgedAs ws number ⊎ (Whole ws × (number ≡ 3))
 
--- "refused by the number and the place that the paper fixes": the word at that place is the first that, with those before it, begins no
+-- "refused by a number and the place our paper fixes for it": the word at that place is the first that, with those before it, begins no
 -- accepted message
 pub record RefusedAt (ws : List Word) (number place : ℕ) : Type 0 where
   pub before : List Word

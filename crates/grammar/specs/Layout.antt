@@ -1,6 +1,6 @@
 -- 01, "Canonical text: one space between words, CR LF after the heading and after the first line, no space before `=`, nothing after it."
 -- The layout of any words, with no record in sight.
--- Assumes nothing.
+-- Believed.
 use mathlib.Core.List.{List, [], _∷_, _++_}
 use mathlib.Core.Path.{_≡_}
 use Prim.Native.Nat.{ℕ, _+_}

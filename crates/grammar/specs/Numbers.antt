@@ -1,6 +1,6 @@
 -- 01, "Refusal numbers", 4 to 12: the number of a word that is refused in a state. 12 where the `=` would also be accepted, else the number
 -- of the part that is next required.
--- Assumes nothing.
+-- Tied: `read-replied`, `replied-only` (crates/grammar/proofs/Theorems.antt).
 use Prim.Native.Nat.{ℕ}
 use Rattle.grammar.specs.States.{Site, Placing, State}
 use Rattle.grammar.specs.States.Site.{inReport, inForecast}

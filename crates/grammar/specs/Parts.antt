@@ -1,6 +1,6 @@
 -- 01, "Refusal numbers": the part of the message that each word of a record belongs to, by the table's numbers. Nothing here knows the
 -- machine.
--- Assumes nothing.
+-- Believed.
 use mathlib.Core.List.{List, [], _∷_, _++_, map}
 use Prim.Native.Nat.{ℕ}
 use lib.ListN.{take, drop}

@@ -1,5 +1,5 @@
 -- 01, the reader on every list of bytes: numbers 1 to 3, then the machine.
--- Assumes nothing.
+-- Tied: `read-replied`, `replied-only` (crates/grammar/proofs/Theorems.antt).
 use mathlib.Core.List.{List}
 use Prim.Native.Nat.{ℕ}
 use lib.Dec.{eqb}

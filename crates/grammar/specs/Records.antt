@@ -1,5 +1,5 @@
 -- The records that the machine makes. "Places of a record that its form does not use are zero (a choice of forms takes its empty case)".
--- Assumes nothing.
+-- Tied: `read-replied`, `replied-only` (crates/grammar/proofs/Theorems.antt).
 use mathlib.Core.Bool.{false, true}
 use mathlib.Core.List.{List, _++_}
 use Prim.Native.Nat.{ℕ, _-_}

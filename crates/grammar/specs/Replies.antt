@@ -1,5 +1,5 @@
 -- The reader's reply on every list of bytes, said without the machine: 01, "Refusal numbers", "Reader, in this order".
--- Assumes nothing.
+-- Believed.
 use mathlib.Core.Bool.{true}
 use mathlib.Core.List.{List}
 use mathlib.Core.Path.{_≡_}

@@ -1,5 +1,5 @@
 -- The machine over a list of words, without and with their places.
--- Assumes nothing.
+-- Tied: `read-replied`, `replied-only` (crates/grammar/proofs/Theorems.antt).
 use mathlib.Core.List.{List, [], _∷_}
 use Prim.Native.Nat.{ℕ}
 use Rattle.words.specs.Words.{Word, wordsAt}

@@ -1,5 +1,5 @@
 -- The grammar of 01 as a machine over words: its states. A state says which word is expected, and carries what was read.
--- Assumes nothing.
+-- Tied: `read-replied`, `replied-only` (crates/grammar/proofs/Theorems.antt).
 use mathlib.Core.List.{List}
 use Prim.Native.Nat.{ℕ}
 use Rattle.coordinates.specs.declared.Coordinate.{Coordinate}

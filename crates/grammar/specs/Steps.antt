@@ -1,5 +1,5 @@
 -- 01, the grammar word by word: `step` says what a word does in a state.
--- Assumes nothing.
+-- Tied: `read-replied`, `replied-only` (crates/grammar/proofs/Theorems.antt).
 use mathlib.Core.Bool.{Bool, true, false, not}
 use mathlib.Core.List.{List, [], _∷_, _++_}
 use Prim.Native.Char.{code}

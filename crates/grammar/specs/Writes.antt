@@ -1,5 +1,5 @@
 -- 01, "Writer: 13 bad record; 24 text over 2,048 bytes; 14 buffer shorter than what would be written. Count 0, buffer untouched."
--- Assumes nothing.
+-- Tied: `three-outcomes` (crates/roundtrips/proofs/RoundTrips.antt).
 use mathlib.Core.Bool.{not}
 use mathlib.Core.List.{List}
 use Prim.Native.Nat.{ℕ}

@@ -1,5 +1,5 @@
 -- 01, "day, hour, minute in six digits", "Day 01-31, hour 00-23, minute 00-59 in every six-digit group; hour and minute alike in `GGggZ`."
--- Assumes nothing.
+-- Believed.
 use mathlib.Core.Bool.{Bool}
 use mathlib.Core.List.{List, _∷_, _++_}
 use Prim.Native.Char.{code}

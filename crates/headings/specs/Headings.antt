@@ -1,6 +1,6 @@
 -- 01, "Heading: `WS` or `WV`, two letters, two digits, as one word; four letters (centre); …; then perhaps a correction, `CCA` to `CCX`."
 -- "First line: …, four letters and a hyphen."
--- Assumes nothing.
+-- Believed.
 use mathlib.Core.Bool.{Bool}
 use mathlib.Core.List.{List, [], _∷_, _++_}
 use Prim.Native.Char.{code}

@@ -1,5 +1,5 @@
 -- 01, "A sequence has 1 to 3 characters: perhaps a letter, then digits, not all zero. It is kept as written."
--- Assumes nothing.
+-- Believed.
 use mathlib.Core.Bool.{Bool}
 use mathlib.Core.List.{List, [], _∷_, _++_}
 use Prim.Native.Nat.{ℕ, _-_, _^_}

@@ -1,6 +1,6 @@
 -- 01, "Level: `FLnnn`, `SFC/FLnnn`, `SFC/nnnnM`, `SFC/nnnnFT`, `SFC/nnnnnFT` (10000 up), `FLnnn/nnn` (lower below upper), …. No number is zero."
 -- The levels that are one word. `TOP` and `ABV` are words of their own before a `FLnnn`.
--- Assumes nothing.
+-- Believed.
 use mathlib.Core.Bool.{Bool, true, false}
 use mathlib.Core.List.{List, [], _∷_, _++_}
 use Prim.Native.Char.{code}

@@ -1,6 +1,6 @@
 -- 01, "The listing is records of one kind byte and a body whose length the kind fixes: kind 1, the time asked (4 bytes); kinds 2 (WS) and
 -- 3 (WV), 16 bytes: area 4, sequence 3 padded, correction 1 (space or letter), start 4, end 4. Numbers are big-endian. Kind 1 comes first".
--- Assumes nothing.
+-- Believed.
 use mathlib.Core.List.{List, [], _∷_, _++_}
 use Prim.Native.Char.{code}
 use Prim.Native.Nat.{ℕ}

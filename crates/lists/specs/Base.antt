@@ -1,5 +1,5 @@
 -- Numbers written in a base, the greatest place first: decimal figures and packed letters are both this.
--- Assumes nothing.
+-- Believed.
 use mathlib.Core.List.{List, [], _∷_, _++_}
 use Prim.Native.Nat.{ℕ, zero, suc, _+_, _*_, _/_, _%_}
 

@@ -1,5 +1,5 @@
 -- Choosing by a test. A definition that goes by tests picks its case with `pick`, in the order in which the code tests.
--- Assumes nothing.
+-- Believed.
 use mathlib.Core.Bool.{Bool, true, false}
 
 abbrev pub pick {ℓ} : {A : Type ℓ} → Bool → A → A → A

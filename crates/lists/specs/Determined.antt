@@ -1,6 +1,6 @@
 -- 01, "How much each contract has to say": "The contract of a public function determines its reply and the final contents of lent buffers on
 -- every input, refused ones too." What that means of a function of any signature: two outcomes that it allows on the same arguments are equal.
--- Assumes nothing.
+-- Believed.
 use mathlib.Core.List.{List}
 use mathlib.Core.Path.{_≡_}
 use Prim.Native.Nat.{ℕ}

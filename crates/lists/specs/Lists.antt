@@ -1,5 +1,5 @@
 -- Searching and testing a list, and a part of one.
--- Assumes nothing.
+-- Believed.
 use mathlib.Core.Bool.{Bool, true, false}
 use mathlib.Core.List.{List, [], _∷_}
 use Prim.Native.Nat.{ℕ, zero, suc, _+_, _-_}

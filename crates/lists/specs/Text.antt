@@ -1,5 +1,5 @@
 -- Fixed words written as text: the bytes of a text, which is ASCII wherever the paper's words are written.
--- Assumes nothing.
+-- Believed.
 use mathlib.Core.List.{List, [], _∷_}
 use Prim.Native.Nat.{ℕ}
 use Prim.Native.Char.{code}

@@ -1,5 +1,5 @@
 -- 01, "A refusal returns an empty record, all zero."
--- Assumes nothing.
+-- Believed.
 use Rattle.groups.specs.Groups.{noGroup, noPeriod}
 use Rattle.headings.specs.Headings.{noDesignator}
 use Rattle.headings.specs.Sequences.{noSequence}

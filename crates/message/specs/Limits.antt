@@ -1,5 +1,5 @@
 -- The numbers of the paper that bound a record, each named once.
--- Assumes nothing.
+-- Believed.
 use Prim.Native.Nat.{ℕ}
 
 -- "with single spaces it has at most 50 characters": so many bytes are kept of any name

@@ -1,5 +1,5 @@
 -- 01, names in a record: "with single spaces it has at most 50 characters"; a mountain's "rules as above, 30 characters".
--- Assumes nothing.
+-- Believed.
 use mathlib.Core.Bool.{Bool}
 use mathlib.Core.List.{List}
 use Prim.Native.Nat.{ℕ}

@@ -1,6 +1,6 @@
 -- 01, the whole record: heading, first line, area, and "Then one of: a test: …; a cancellation: …; a report: …".
 -- "a record with anything else there, or with any part outside the rules above, is a bad record, and every other is good."
--- Assumes nothing.
+-- Believed.
 use mathlib.Core.Bool.{Bool, false, not}
 use Prim.Native.Nat.{ℕ}
 use lib.Dec.{eqb}

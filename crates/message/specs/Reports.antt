@@ -1,5 +1,5 @@
 -- 01, "a report: phenomenon, observation, location, level, then the ending."
--- Assumes nothing.
+-- Believed.
 use mathlib.Core.Bool.{Bool, true, false, not}
 use mathlib.Core.List.{List, [], _∷_, _++_}
 use Prim.Native.Nat.{ℕ, _-_}

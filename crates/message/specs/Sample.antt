@@ -1,5 +1,5 @@
 -- The sample of 01, "The program and the sample", as a record given field by field and as its text.
--- Assumes nothing.
+-- Believed.
 use mathlib.Core.Bool.{false}
 use mathlib.Core.List.{List, _++_}
 use Prim.Native.Char.{code}

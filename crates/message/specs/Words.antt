@@ -1,6 +1,6 @@
 -- The words of a record, and 01, "Canonical text: one space between words, CR LF after the heading and after the first line, no space
 -- before `=`, nothing after it."
--- Assumes nothing.
+-- Believed.
 use mathlib.Core.List.{List, [], _∷_, _++_}
 use Prim.Native.Nat.{ℕ, _-_}
 use lib.Dec.{eqb}

@@ -1,5 +1,5 @@
 -- 01, "The sixteen points of the compass are numbered 0 (N) to 15 (NNW) clockwise in the record."; "`INTSF`, `WKN` or `NC`".
--- Assumes nothing.
+-- Believed.
 use mathlib.Core.Bool.{Bool}
 use mathlib.Core.List.{List, [], _∷_}
 use Prim.Native.Nat.{ℕ}

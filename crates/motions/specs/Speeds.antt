@@ -1,5 +1,5 @@
 -- 01, "`nnKT` or `nnKMH` (01 to 99)".
--- Assumes nothing.
+-- Believed.
 use mathlib.Core.Bool.{Bool}
 use mathlib.Core.List.{List, [], _∷_, _++_}
 use Prim.Native.Nat.{ℕ}

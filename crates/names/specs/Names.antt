@@ -1,6 +1,6 @@
 -- 01, "A name is one or more words of letters and hyphens, each beginning and ending with a letter, none of them a closing word; with
 -- single spaces it has at most 50 characters." A mountain's name has the "rules as above, 30 characters, closing word `PSN`".
--- Assumes nothing.
+-- Believed.
 use mathlib.Core.Bool.{Bool, not}
 use mathlib.Core.List.{List, [], _∷_}
 use Prim.Native.Char.{code}

@@ -1,5 +1,5 @@
 -- What writing into a lent buffer comes to, the canonical text and the listing alike.
--- Assumes nothing.
+-- Believed.
 use mathlib.Core.List.{List, _++_}
 use Prim.Native.Nat.{ℕ}
 use lib.ListN.{length, drop}

@@ -1,5 +1,5 @@
 -- A pen on a page: the place where the next byte goes, and the bytes of a lent buffer. The end of the page stops it.
--- Assumes nothing.
+-- Internal contract.
 use mathlib.Core.List.{List, [], _∷_, _++_, map}
 use mathlib.Core.Path.{_≡_}
 use Prim.Native.Char.{code}

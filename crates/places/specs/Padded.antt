@@ -1,6 +1,6 @@
 -- 01, "sequence as written" in an identity, "sequence padded with spaces on the right" in the order and "sequence 3 padded" in the listing:
 -- the characters, filled up to three with spaces, as one number in base 256.
--- Assumes nothing.
+-- Believed.
 use mathlib.Core.Bool.{Bool}
 use mathlib.Core.List.{List, _++_}
 use Prim.Native.Char.{code}

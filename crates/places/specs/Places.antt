@@ -1,6 +1,6 @@
 -- 01, "Identity: type, area, sequence as written, start, end. A board has 64 places, each empty (all zero) or holding an identity, a
 -- correction and a mark."
--- Assumes nothing.
+-- Believed.
 use mathlib.Core.Bool.{Bool, false, not}
 use Prim.Native.Nat.{ℕ, _+_}
 use lib.Dec.{leb, ltb, eqb}

@@ -10,7 +10,7 @@ use Rattle.message.specs.declared.Record.{Record}
 use Rattle.grammar.specs.Bulletins.{acceptance}
 use Rattle.grammar.specs.Reads.{readOf}
 use Rattle.grammar.specs.declared.Reply.{Reply}
-use Rattle.cases.specs.Cases.{cancelling, laterSaying}
+use Rattle.cases.specs.Samples.{cancelling, laterSaying}
 use Rattle.cases.proofs.Readings.{sample-read, cancellation-read}
 use Rattle.pens.specs.declared.Written.{Written}
 use Rattle.places.specs.declared.Place.{Place}

@@ -32,7 +32,7 @@ use Rattle.promises.proofs.Messages.{one-identity}
 use Rattle.promises.proofs.Tracks.{tracked}
 use Rattle.promises.proofs.Room.{lasting-most}
 use Rattle.promises.proofs.Answering.{answer-cause, cause-answer, later, only-room, new-full, new-accepted}
-use Rattle.promises.proofs.Listing.{rows-listed, listed-most, one-listing, list-cause}
+use Rattle.promises.proofs.Listing.{in-numbers, rows-listed, listed-most, one-listing, list-cause}
 
 -- What the contracts allow.
 
@@ -155,7 +155,7 @@ demand-3 =
       one-rows = λ h time xs ys. one-listing;
       none-twice =
           λ h time rows i.
-          Pairwise·imp {S = λ (p q : Place). p .identity ≡ q .identity → ⊥} (λ p q o e. precedes-irreflexive (subst (λ (x : Identity). Precedes x (q .identity)) e o)) (i .ordered);
+          Pairwise·imp {S = λ (p q : Place). p .identity ≡ q .identity → ⊥} (λ p q o e. precedes-irreflexive (subst (λ (x : Identity). Precedes x (q .identity)) e o)) (in-numbers i);
       never-more =
           λ h hp time l rows i.
           let t = tracked (hp .run) in

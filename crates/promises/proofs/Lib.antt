@@ -4,9 +4,11 @@ pub mod Refusing
 pub mod Tracks
 pub mod Room
 pub mod Answering
+pub mod OrderLaws
 pub mod Listing
 pub mod Histories
 pub mod Contracts
+pub mod CoordinateLaws
 pub mod StarredLaws
 pub mod FraudLaws
 pub mod FunctionLaws

@@ -26,7 +26,7 @@ use Rattle.message.specs.Records.{goodHeading, goodLine, goodArea, goodForm, go
 use Rattle.message.specs.Reports.{emptyVolcano, goodPhenomenon, goodObservation, emptyObservation, goodEnding, emptyEnding, goodReport, emptyReport}
 use Rattle.message.specs.Sample.{dayAndTime, sample}
 use Rattle.message.specs.declared.Record.{Record}
-use Rattle.cases.specs.Cases.{cancelling}
+use Rattle.cases.specs.Samples.{cancelling}
 use Rattle.calendar.specs.Gregorian.{never, firstDay, monthLength, dayFrom, dayOfMonth}
 use Rattle.calendar.specs.Instants.{matches, onDay, instantIn, startOf, endOf, targetOf}
 use Rattle.places.specs.Padded.{padded, unpadded, heldSequence}

@@ -1,7 +1,7 @@
 -- What a history has accepted: "the weather reports accepted so far", their corrections and periods, and what accepted cancellations name.
 -- A correction is the code of its letter, 0 for none, so that "none, then A to X" is the order of the numbers. A sequence is kept padded;
 -- two good sequences that are padded alike are the same as written (`padded-only`).
--- Assumes nothing.
+-- Believed.
 use mathlib.Core.Bool.{true}
 use mathlib.Core.List.{[], _∷_}
 use mathlib.Core.Path.{_≡_}

@@ -1,7 +1,7 @@
 -- The history of a board: the calls that were made, with their answers. Nothing here looks inside a board.
 -- A contract speaks of slices: where one lies, the name by which its contents are kept track of, and how long it is lent are whatever they
 -- are; `Learnt` is the function's `ensures`.
--- Assumes nothing.
+-- Believed.
 use mathlib.Core.List.{List, [], _∷_}
 use Prim.Native.Nat.{ℕ}
 use base.Fml.{GName}

@@ -1,7 +1,7 @@
 -- The customer's first demand: "Every input of bytes, every record and every clock reading gets a definite reply. A bad bulletin is refused by
--- the number and the place that the paper fixes. A refused call alters neither board nor buffer."
+-- a number and the place our paper fixes for it. A refused call alters neither the board nor the buffer it was lent."
 -- Of the calls that a user makes; specs/Functions.antt has every public function.
--- Assumes nothing.
+-- Believed.
 use mathlib.Core.Bool.{false}
 use mathlib.Core.List.{List}
 use mathlib.Core.Logic.{_↔_}
@@ -30,7 +30,7 @@ pub record Demand1 : Type 0 where
   pub one-posting : (b x y : Board) (clock : ℕ) (r : Record) (m n : ℕ) → MayPost b clock r m x → MayPost b clock r n y → (m ≡ n) × (x ≡ y)
   pub one-listing : (b : Board) (time : ℕ) (buffer x y : List ℕ) (m n j k : ℕ) → MayList b time buffer m j x → MayList b time buffer n k y
       → (m ≡ n) × (j ≡ k) × (x ≡ y)
-  -- "A bad bulletin is refused by the number and the place that the paper fixes": `Replied` says them, 4 to 12 without any machine, 1 to 3 as
+  -- "A bad bulletin is refused by a number and the place our paper fixes for it": `Replied` says them, 4 to 12 without any machine, 1 to 3 as
   -- `checkOf` finds them
   pub fixed : (bulletin : List ℕ) (p : Reply) → MayRead bulletin p ↔ Replied bulletin p
   -- 13, 14 or the whole text; and 36 exactly for a board that is not good (16, 17 and the rest are demand 3's)
@@ -38,7 +38,7 @@ pub record Demand1 : Type 0 where
   pub bad-board-post : (b after : Board) (clock : ℕ) (r : Record) (answer : ℕ) → MayPost b clock r answer after → (answer ≡ 36) ↔ (goodBoard b ≡ false)
   pub bad-board-list : (b : Board) (time : ℕ) (buffer after : List ℕ) (answer count : ℕ) → MayList b time buffer answer count after
       → (answer ≡ 36) ↔ (goodBoard b ≡ false)
-  -- "A refused call alters neither board nor buffer."
+  -- "A refused call alters neither the board nor the buffer it was lent."
   pub refused-writing : (r : Record) (buffer after : List ℕ) (w : Written) → MayWrite r buffer w after → (w .number ≡ 0 → ⊥)
       → (w .count ≡ 0) × (after ≡ buffer)
   pub refused-post : (b after : Board) (clock : ℕ) (r : Record) (answer : ℕ) → MayPost b clock r answer after → (answer ≡ 0 → ⊥) → after ≡ b

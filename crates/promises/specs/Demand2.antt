@@ -1,7 +1,8 @@
--- The customer's second demand: "The reader takes exactly the message forms of the paper, each with one meaning. Writing a good record and
--- reading it gives that record; reading a canonical text and writing it gives the same bytes."
+-- The customer's second demand: "The reader takes exactly the message forms of ICAO Annex 3, Amendment 77, as our paper gives them, each with
+-- one meaning. Writing a good record, where the buffer has room, and reading it gives that record. Reading a canonical text and writing it
+-- gives the same bytes."
 -- A reader and a writer are known by the replies that they may give, and the demand is made of those. Ours are `MayRead` and `MayWrite`.
--- Assumes nothing.
+-- Believed.
 use mathlib.Core.Bool.{true}
 use mathlib.Core.List.{List, _++_}
 use mathlib.Core.Path.{_≡_}
@@ -26,15 +27,15 @@ pub record Says (bulletin : List ℕ) (r : Record) : Type 0 where
   pub words : wordsIn (textIn bulletin) ≡ messageWords r
 
 pub record Demand2 (Reads : List ℕ → Reply → Type 0) (Writes : Record → List ℕ → Written → List ℕ → Type 0) : Type 0 where
-  -- "The reader takes exactly the message forms of the paper, …
+  -- "The reader takes exactly the message forms of ICAO Annex 3, Amendment 77, as our paper gives them, …
   pub takes-only : (bulletin : List ℕ) (p : Reply) → Reads bulletin p → p .number ≡ 0 → Says bulletin (p .message)
   pub takes-all : (bulletin : List ℕ) (p : Reply) → Reads bulletin p → (r : Record) → Says bulletin r → p ≡ acceptance r
   -- … each with one meaning"
   pub one-meaning : (q r : Record) → good q ≡ true → good r ≡ true → wordsOf q ≡ wordsOf r → q ≡ r
-  -- "Writing a good record and reading it gives that record"
+  -- "Writing a good record, where the buffer has room, and reading it gives that record."
   pub written-then-read : (r : Record) (buffer after : List ℕ) (w : Written) (p : Reply) → good r ≡ true → length (textOf r) ≤ length buffer
       → Writes r buffer w after → Reads (take (w .count) after) p → (w .number ≡ 0) × (p ≡ acceptance r)
-  -- "reading a canonical text and writing it gives the same bytes"
+  -- "Reading a canonical text and writing it gives the same bytes."
   pub read-then-written : (t buffer after : List ℕ) (p : Reply) (w : Written) → Canonical t → Reads t p → p .number ≡ 0 → length t ≤ length buffer
       → Writes (p .message) buffer w after → (w .number ≡ 0) × (w .count ≡ length t) × (after ≡ t ++ drop (length t) buffer)
   -- what is written is canonical, so that every bulletin that is read has a canonical text, and one only

@@ -2,7 +2,7 @@
 -- where a buffer is lent to it, what is left there too (`Settles`). One row for each, in the order of the crates. `ps` are the parameters and `r`
 -- the reply by their kinds, `Learnt` is the contract's `ensures`: three generated names for each function, and nothing else is used of it.
 -- tests/public-functions holds the rows against the code.
--- Assumes nothing.
+-- Believed.
 use Rattle.lists.specs.Determined.{Determines, Settles}
 use Rattle.lists.proofs.both.Kinds as lists-both-kinds
 use Rattle.lists.proofs.both.Reads as lists-both-reads

@@ -17,7 +17,7 @@ use Rattle.message.specs.Words.{textOf}
 use Rattle.message.specs.declared.Record.{Record}
 use Rattle.grammar.specs.Bulletins.{acceptance, refusal}
 use Rattle.grammar.specs.Reads.{readOf}
-use Rattle.cases.specs.Cases.{reporting, laterSaying, eastOf, E180, cancelling}
+use Rattle.cases.specs.Samples.{reporting, laterSaying, eastOf, E180, cancelling}
 use Rattle.calendar.specs.Gregorian.{firstDay}
 use Rattle.calendar.specs.Declared.{IsStart, IsEnd, IsTarget}
 use Rattle.board.specs.Boards.{emptyBoard}

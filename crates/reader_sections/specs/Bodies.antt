@@ -1,5 +1,5 @@
 -- What follows the area, up to the `=`, as equations of runs.
--- Assumes nothing.
+-- Internal contract.
 use mathlib.Core.List.{List}
 use mathlib.Core.Path.{_≡_}
 use Prim.Native.Nat.{ℕ}

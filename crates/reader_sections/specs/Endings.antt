@@ -1,5 +1,5 @@
 -- The ending, as equations of runs.
--- Assumes nothing.
+-- Internal contract.
 use mathlib.Core.Bool.{Bool}
 use mathlib.Core.List.{List}
 use mathlib.Core.Path.{_≡_}

@@ -1,5 +1,5 @@
 -- The location, as equations of runs, in a report and in a forecast alike.
--- Assumes nothing.
+-- Internal contract.
 use mathlib.Core.List.{List, [], _∷_}
 use mathlib.Core.Path.{_≡_}
 use Prim.Native.Nat.{ℕ}

@@ -1,5 +1,5 @@
 -- The reading of a name, an area's or a mountain's: in any states that take the words of a name.
--- Assumes nothing.
+-- Internal contract.
 use mathlib.Core.Bool.{Bool, false}
 use mathlib.Core.List.{List}
 use mathlib.Core.Path.{_≡_}

@@ -1,5 +1,5 @@
 -- The sections up to the area, as equations of runs. What was read before is for all values.
--- Assumes nothing.
+-- Internal contract.
 use mathlib.Core.List.{List}
 use Prim.Native.Nat.{ℕ}
 use Rattle.groups.specs.declared.Group.{Group}

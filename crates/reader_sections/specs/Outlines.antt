@@ -1,5 +1,5 @@
 -- The outline, as equations of runs. The code keeps the first point and how many there are.
--- Assumes nothing.
+-- Internal contract.
 use mathlib.Core.Bool.{Bool, true, false}
 use mathlib.Core.List.{List, [], _∷_, _++_}
 use mathlib.Core.Path.{_≡_}

@@ -1,5 +1,5 @@
 -- The report, as equations of runs.
--- Assumes nothing.
+-- Internal contract.
 use mathlib.Core.Bool.{false}
 use mathlib.Core.List.{List}
 use mathlib.Core.Path.{_≡_}

@@ -1,7 +1,7 @@
 -- A section leads from one step to another. A step is a number, a place and an end: number 0 says that the run of the grammar's machine goes on from that
 -- place, any other number that the word at that place was refused. A section's contract is then an equation of runs at two steps, and a step once
 -- refused stays refused.
--- Assumes nothing.
+-- Internal contract.
 use mathlib.Core.Bool.{Bool, true, false}
 use mathlib.Core.List.{List}
 use mathlib.Core.Path.{_≡_}

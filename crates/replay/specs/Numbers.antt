@@ -1,5 +1,5 @@
 -- docs/REPLAY.md: "A number is one or more decimal figures, leading zeros allowed, and at most 4,294,967,295."
--- Assumes nothing.
+-- Internal contract.
 use mathlib.Core.Bool.{Bool, true, false, not}
 use mathlib.Core.List.{List, [], _∷_}
 use Prim.Native.Nat.{ℕ, _+_, _*_, _%_}

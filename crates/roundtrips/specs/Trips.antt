@@ -1,6 +1,6 @@
 -- What the contracts of `read` and `write` allow, said of lists of bytes. A contract speaks of slices: where one lies, the name by which its
 -- contents are kept track of, and how long it is lent are whatever they are.
--- Assumes nothing.
+-- Believed.
 use mathlib.Core.Bool.{true, false}
 use mathlib.Core.List.{List, _++_}
 use mathlib.Core.Path.{_≡_}

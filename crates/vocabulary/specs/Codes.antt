@@ -1,5 +1,5 @@
 -- The codes of the fixed words that the reader tells by their codes, as crates/vocabulary/src has them: a 1 and then the bytes of the word.
--- Assumes nothing.
+-- Internal contract.
 use Prim.Native.Nat.{ℕ}
 
 -- `SIGMET`

@@ -1,5 +1,5 @@
 -- 01, "From bytes to words": the bytes that a bulletin is made of.
--- Assumes nothing.
+-- Believed.
 use mathlib.Core.Bool.{Bool, not}
 use Prim.Native.Char.{code}
 use Prim.Native.Nat.{ℕ}

@@ -1,5 +1,5 @@
 -- 01, "Refusal numbers", reader, numbers 1 to 3 with their places, in the paper's order.
--- Assumes nothing.
+-- Believed.
 use mathlib.Core.List.{List}
 use Prim.Native.Nat.{ℕ, _+_}
 use lib.Dec.{ltb, eqb}

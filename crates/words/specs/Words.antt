@@ -1,6 +1,6 @@
 -- 01, "From bytes to words": "Words are the longest runs without space, CR or LF before the first `=`; that `=` is the last word."
 -- A text here is what stands before the first `=`. The `=` itself is the last word, with no byte of its own, at the text's length.
--- Assumes nothing.
+-- Believed.
 use mathlib.Core.Bool.{Bool}
 use mathlib.Core.List.{List, [], _∷_, _++_, map}
 use Prim.Native.Char.{code}

@@ -1,7 +1,7 @@
 -- `goodText` stands in the contract of `put_text`. The rest is what the sections of the writer promise one another: names for parts of the words that
 -- crate message defines (each is an arm of `formWords`, `endingWords`, `locationWords`, … and proved so where it is used), and for what a
 -- section is handed.
--- Assumes nothing.
+-- Internal contract.
 use mathlib.Core.Bool.{true}
 use mathlib.Core.List.{List, [], _∷_, _++_}
 use mathlib.Core.Path.{_≡_}

@@ -3,7 +3,7 @@
 use crate::decode::{decode, Reply};
 use crate::generate::{bulletin, CLASSES};
 
-/// `examples` has room for 131,072 bytes.
+/// Bytes of a table, within the room that `examples` has.
 const ROOM: usize = 120_000;
 
 /// Bytes as `examples` takes them: `\s` for 128 spaces, `\xHH` for what is no ASCII and for the two signs that the table itself has.

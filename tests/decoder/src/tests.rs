@@ -3,6 +3,7 @@ use crate::generate::{bulletin, may_follow, CLASSES};
 use crate::instants;
 use crate::script::replay;
 use crate::scripts::script;
+use crate::shapes::{latitude, longitude};
 use crate::table::{judge, row};
 use crate::words::cut;
 
@@ -26,6 +27,13 @@ fn the_paper_s_cases() {
     assert_eq!(verdict(&SAMPLE.replace('=', "")), (3, 129));
     assert_eq!(verdict(&SAMPLE.replace("E OF E114", "N OF N9001")), (9, 100));
     assert_eq!(verdict(&SAMPLE.replace("QAAA-", "QAAA")), (5, 54));
+}
+
+#[test]
+fn values_of_the_paper() {
+    assert_eq!((latitude("N00"), latitude("S0000")), (Some(0), Some(0)));
+    assert_eq!((latitude("S90"), latitude("N9001")), (Some(-5_400), None));
+    assert_eq!((longitude("E180"), longitude("W18000"), longitude("E181")), (Some(10_800), Some(-10_800), None));
 }
 
 /// Bodies after the first line; a `^` stands before the word refused.
@@ -168,6 +176,8 @@ fn instants_of_the_paper() {
     assert_eq!(instants::start(12_648_030, "180830"), Some(12_648_030));
     assert_eq!(instants::end("WS", 12_648_030, "181230"), Some(12_648_270));
     assert_eq!(instants::start(12_709_380, "010100"), Some(12_709_500));
+    // 2023-02-28 2300Z
+    assert_eq!(instants::group(12_182_340), "282300");
     assert_eq!(instants::start(12_182_340, "290100"), None);
     assert_eq!(instants::target_start("WS", 12_648_270, "180830"), Some(12_648_030));
     assert_eq!(instants::target_start("WS", 12_648_270, "180829"), None);
@@ -176,11 +186,18 @@ fn instants_of_the_paper() {
 #[test]
 fn scripts_of_the_paper() {
     let said = |script: &[u8]| replay(script).into_iter().map(|(_, line)| line).collect::<String>();
-    let mut script = format!("P 12648030 130\n{SAMPLE}\nL 12648030 22\nL 12648030 21\nL 12648270 5\n").into_bytes();
-    let lines = "p 0\nl 0 22 0100c0fe5e02514242423120202000c0fe5e00c0ff4e\nl 14 0\nl 0 5 0100c0ff4e\n";
-    assert_eq!(said(&script), lines);
-    script.push(b'\n');
-    assert_eq!(said(&script), format!("{lines}?\n"));
+    let posted = format!("P 12648030 130\n{SAMPLE}\nL 12648030 22\nL 12648030 21\nL 12648269 22\nL 12648270 5\n");
+    let lines = "p 0\nl 0 22 0100c0fe5e02514242423120202000c0fe5e00c0ff4e\nl 14 0\n\
+        l 0 22 0100c0ff4d02514242423120202000c0fe5e00c0ff4e\nl 0 5 0100c0ff4e\n";
+    assert_eq!(said(posted.as_bytes()), lines);
+    assert_eq!(said(format!("{posted}\n").as_bytes()), format!("{lines}?\n"));
+    // The cancellation takes the sample off the list; the sample again, relayed late, gets 22, the cancellation again 21.
+    let cancellation = "WSZZ31 QAAA 181100\r\nQBBB SIGMET 2 VALID 181100/181230 QAAA-\r\n\
+        QBBB NORTH SOUND FIR CNL SIGMET 1 180830/181230=";
+    let count = cancellation.len();
+    let crossed = format!("{posted}P 12648180 {count}\n{cancellation}\nL 12648180 22\n");
+    let late = format!("{crossed}P 12648181 130\n{SAMPLE}\nP 12648181 {count}\n{cancellation}\n");
+    assert_eq!(said(late.as_bytes()), format!("{lines}p 0\nl 0 5 0100c0fef4\np 22\np 21\n"));
 }
 
 /// The scripts have every answer that a script can have, and are as long as they may be.
