@@ -1,12 +1,11 @@
 -- Demand 3 holds.
-use mathlib.Core.Bool.{true}
 use mathlib.Core.List.{List, [], _∷_, _++_, Pairwise·imp}
 use mathlib.Core.Logic.{_↔_}
 use mathlib.Core.Path.{_≡_, refl, sym, ap, subst, _∙_}
 use Prim.Native.Nat.{ℕ, _≤_, _<_}
 use native.Mathlib.Omega.{arith}
 use lib.ListN.{length, drop}
-use Rattle.lists.proofs.Choice.{clash, determined}
+use Rattle.lists.proofs.Choice.{determined}
 use Rattle.message.specs.declared.Record.{Record}
 use Rattle.board.specs.Boards.{emptyBoard}
 use Rattle.board.specs.Posts.{postOf}
