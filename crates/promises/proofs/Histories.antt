@@ -22,7 +22,8 @@ use Rattle.promises.specs.Calls.{Call, History, MayBegin, MayPost, MayLi
 use Rattle.promises.specs.Calls.Call.{posted, listed}
 use Rattle.promises.specs.Calls.Run.{begun, then-posted, then-listed}
 use Rattle.promises.specs.Accepted.{Known}
-use Rattle.promises.specs.Answers.{Timely, Concerns, Full, PostAnswered}
+use Rattle.promises.specs.Refusals.{Concerns}
+use Rattle.promises.specs.Answers.{Timely, Full, PostAnswered}
 use Rattle.promises.specs.InForce.{IsListing, ListAnswered}
 use Rattle.listing.specs.Listings.{listing}
 use Rattle.promises.specs.InForce.ListAnswered.{outside, early, short, whole}

@@ -10,8 +10,7 @@ use Rattle.places.specs.declared.Identity.{Identity}
 use Rattle.board.specs.Boards.{placeCount}
 use Rattle.promises.specs.Calls.{History}
 use Rattle.promises.specs.Accepted.{Reported, Cancelled, Known, lastClock}
-pub use Rattle.promises.specs.Refusals.{InRange, Concerns}
-use Rattle.promises.specs.Refusals.{Found, Answered}
+use Rattle.promises.specs.Refusals.{InRange, Found, Answered}
 
 -- in range, and no earlier than the last accepted post
 pub record Timely (h : History) (clock : ℕ) : Type 0 where
