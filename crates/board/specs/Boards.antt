@@ -17,8 +17,14 @@ abbrev pub placeCount : ℕ
 placeCount = 64
 
 -- "The clock given to a board call is 1,440 to 52,591,679."
+abbrev pub earliestClock : ℕ
+earliestClock = 1440
+
+abbrev pub latestClock : ℕ
+latestClock = 52591679
+
 abbrev pub inRange : ℕ → Bool
-inRange clock = between 1440 52591679 clock
+inRange clock = between earliestClock latestClock clock
 
 -- a place of another identity
 abbrev pub differs : Place → Place → Bool

@@ -8,7 +8,7 @@ use Prim.Native.String.{String}
 use lib.ListN.{replicate}
 use Rattle.lists.specs.Base.{worth}
 use Rattle.lists.specs.Text.{bytes}
-use Rattle.coordinates.specs.Points.{noPoint}
+use Rattle.coordinates.specs.Points.{point, noPoint}
 use Rattle.coordinates.specs.declared.Coordinate.{Coordinate}
 use Rattle.coordinates.specs.declared.Point.{Point}
 use Rattle.headings.specs.declared.Sequence.{Sequence}
@@ -38,9 +38,6 @@ ashSaying body = bulletin "WVZZ31 QAAA 180830" "QBBB SIGMET 1 VALID 180830/18123
 
 abbrev pub coordinate : ℕ → ℕ → ℕ → ℕ → Coordinate
 coordinate letter digits degrees minutes = record { letter = letter; digits = digits; degrees = degrees; minutes = minutes }
-
-abbrev pub point : Coordinate → Coordinate → Point
-point latitude longitude = record { latitude = latitude; longitude = longitude }
 
 -- `WSZZ31 QAAA 180830`, or `WVZZ31 …`, with a correction or none
 abbrev pub sampleHeading : ℕ → ℕ → Heading

@@ -16,13 +16,13 @@ use Rattle.message.specs.declared.Form.the-variants.{Cancellation}
 use Rattle.message.specs.declared.Location.the-variants.{Bounded}
 use Rattle.message.specs.declared.Record.{Record}
 
+-- a bulletin of three lines
+abbrev pub bulletin : String → String → String → List ℕ
+bulletin heading line body = bytes heading ++ (newLine ++ (bytes line ++ (newLine ++ bytes body)))
+
 -- the sample with this text after `FIR SEV ICE FCST `
 abbrev pub reporting : String → List ℕ
-reporting rest =
-    bytes "WSZZ31 QAAA 180830"
-    ++ (newLine
-    ++ (bytes "QBBB SIGMET 1 VALID 180830/181230 QAAA-"
-    ++ (newLine ++ (bytes "QBBB NORTH SOUND FIR SEV ICE FCST " ++ bytes rest))))
+reporting rest = bulletin "WSZZ31 QAAA 180830" "QBBB SIGMET 1 VALID 180830/181230 QAAA-" "QBBB NORTH SOUND FIR SEV ICE FCST " ++ bytes rest
 
 -- the sample's record with another location
 abbrev pub located : Extent → Record
@@ -52,10 +52,6 @@ eastOf c =
 -- E180
 abbrev pub E180 : Coordinate
 E180 = record { letter = code "E"; digits = 3; degrees = 180; minutes = 0 }
-
--- a bulletin of three lines
-abbrev pub bulletin : String → String → String → List ℕ
-bulletin heading line body = bytes heading ++ (newLine ++ (bytes line ++ (newLine ++ bytes body)))
 
 -- sequence 2, of 181100/181230, and this body: a message that may cancel the sample
 abbrev pub laterSaying : String → List ℕ

@@ -30,8 +30,11 @@ goodPoint p = both (goodCoordinate northSouth (p .latitude)) (goodCoordinate eas
 unfoldable pub emptyPoint : Point → Bool
 emptyPoint p = both (emptyCoordinate (p .latitude)) (emptyCoordinate (p .longitude))
 
+abbrev pub point : Coordinate → Coordinate → Point
+point latitude longitude = record { latitude = latitude; longitude = longitude }
+
 abbrev pub noPoint : Point
-noPoint = record { latitude = noCoordinate; longitude = noCoordinate }
+noPoint = point noCoordinate noCoordinate
 
 -- the two words of a point
 abbrev pub pointWords : Point → List (List ℕ)

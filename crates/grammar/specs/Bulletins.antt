@@ -16,6 +16,6 @@ acceptance r = record { number = 0; place = 0; message = r }
 abbrev pub refusal : ℕ → ℕ → Reply
 refusal number place = record { number = number; place = place; message = noRecord }
 
--- what stands before the first `=`
+-- what stands before the first `=`, where numbers 1 to 3 have nothing against the bulletin
 abbrev pub textIn : List ℕ → List ℕ
 textIn b = take (checkOf b .place) b

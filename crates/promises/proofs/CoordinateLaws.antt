@@ -13,13 +13,13 @@ use Rattle.lists.proofs.Choice.{both-true, both-false-right}
 use Rattle.figures.specs.Figures.{figuresOf}
 use Rattle.figures.proofs.ReadsLaws.{reads-spelled}
 use Rattle.coordinates.specs.Coordinates.{Axis, northSouth, eastWest, coordinateOf, goodCoordinate, signedOf}
-use Rattle.coordinates.specs.Points.{apart, goodPoint, samePoint}
+use Rattle.coordinates.specs.Points.{apart, point, goodPoint, samePoint}
 use Rattle.coordinates.specs.declared.Coordinate.{Coordinate}
 use Rattle.coordinates.proofs.Axes.{latitude-reads, longitude-reads}
 use Rattle.coordinates.proofs.Range.{signed-range, abs-between, between-abs, latitude-every, longitude-every}
 use Rattle.coordinates.proofs.Globe.{Meridian, same-point-is, same-point-refl, same-point-sym, same-point-trans}
 use Rattle.coordinates.proofs.Cases.{n00, s0000, n90, s90, e180, w18000, n00-is-s0000, e180-is-w18000}
-use Rattle.promises.specs.Coordinates.{IsValue, Within, OneMeridian, latitude, longitude, point, Coordinates}
+use Rattle.promises.specs.Coordinates.{IsValue, Within, OneMeridian, latitude, longitude, Coordinates}
 use Rattle.promises.specs.Coordinates.OneMeridian.{equal, east-west, west-east}
 
 -- Signed values.
@@ -75,6 +75,8 @@ two-meridians n = both-false-right (eqb (apart (signedOf n) (signedOf n)) 0) ref
 pub coordinates : Coordinates
 coordinates =
     record {
+      values = λ c value. (λ m. m .allowed, λ e. record { lent = tt; allowed = e });
+      compares = λ p q answer. (λ m. m .allowed, λ e. record { lent = tt; allowed = e });
       north = λ c. positive c (code "N") refl;
       south = λ c. negative c (code "S") refl;
       east = λ c. positive c (code "E") refl;

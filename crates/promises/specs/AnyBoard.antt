@@ -24,7 +24,7 @@ use Rattle.promises.specs.Refusals.{Found, Answered}
 abbrev pub placeOf : Board → ℕ → Place
 placeOf b k = getD (b .places) k noPlace
 
--- the identity is held at that place
+-- the identity is held at that place; no message has that of an empty place, all zero
 pub record HeldAt (b : Board) (i : Identity) (k : ℕ) : Type 0 where
   pub within : k < placeCount
   pub its : placeOf b k .identity ≡ i
@@ -76,7 +76,7 @@ pub record PostsOnAnyBoard : Type 0 where
   pub stays-good : (b after : Board) (clock : ℕ) (r : Record) (answer : ℕ) → MayPost b clock r answer after → goodBoard b ≡ true → goodBoard after ≡ true
   -- each number exactly for its cause, in the paper's order; 36 exactly on a board that is not good
   pub turned-away : (b after : Board) (clock : ℕ) (r : Record) (answer : ℕ) → MayPost b clock r answer after → (n : ℕ) → (answer ≡ n) ↔ AnsweredOn b clock r n
-  -- "Board unchanged, its clock too."
+  -- "Board unchanged, its clock too.", as demand 1 has it
   pub refused : (b after : Board) (clock : ℕ) (r : Record) (answer : ℕ) → MayPost b clock r answer after → (answer ≡ 0 → ⊥) → after ≡ b
   -- accepted: the board takes the message, and no other board is what it then is
   pub takes : (b after : Board) (clock : ℕ) (r : Record) → MayPost b clock r 0 after → Takes b clock r after

@@ -9,13 +9,16 @@ use mathlib.Core.Path.{_≡_}
 use Prim.Native.Char.{code}
 use Prim.Native.Nat.{ℕ, _+_, _*_}
 use Prim.Native.String.{String}
+use contract.Lifetimes.{Lfts}
 use lib.IntN.{ℤ, pos, negℤ}
 use lib.Signed.{_≤ℤ_}
 use Rattle.lists.specs.Text.{bytes}
 use Rattle.coordinates.specs.Coordinates.{Axis, northSouth, eastWest, coordinateOf, goodCoordinate, spellCoordinate, signedOf}
-use Rattle.coordinates.specs.Points.{goodPoint, samePoint}
+use Rattle.coordinates.specs.Points.{point, goodPoint, samePoint}
 use Rattle.coordinates.specs.declared.Coordinate.{Coordinate}
 use Rattle.coordinates.specs.declared.Point.{Point}
+use Rattle.coordinates.proofs.signed.Reads as signed-reads
+use Rattle.coordinates.proofs.same_point.Reads as same-point-reads
 
 -- a good coordinate of the axis has this signed value
 pub record IsValue (a : Axis) (value : ℤ) : Type 0 where
@@ -33,15 +36,12 @@ pub data OneMeridian (x y : ℤ) : Type 0 where
   east-west : x ≡ pos 10800 → y ≡ negℤ (pos 10800) → OneMeridian x y
   west-east : x ≡ negℤ (pos 10800) → y ≡ pos 10800 → OneMeridian x y
 
--- the coordinates of words, and the point of two coordinates
+-- the coordinates of words
 abbrev pub latitude : String → Coordinate
 latitude word = coordinateOf northSouth (bytes word)
 
 abbrev pub longitude : String → Coordinate
 longitude word = coordinateOf eastWest (bytes word)
-
-abbrev pub point : Coordinate → Coordinate → Point
-point n e = record { latitude = n; longitude = e }
 
 -- both points are good, and whether they are equal
 pub record Compared (p q : Point) (answer : Bool) : Type 0 where
@@ -49,7 +49,19 @@ pub record Compared (p q : Point) (answer : Bool) : Type 0 where
   pub second : goodPoint q ≡ true
   pub same : samePoint p q ≡ answer
 
+-- `signed(c)` may answer this value, and `same_point(p, q)` this
+pub record MayValue (c : Coordinate) (value : ℤ) : Type 0 where
+  pub lent : Lfts 0
+  pub allowed : signed-reads.Learnt lent (c, tt) value (c, tt)
+
+pub record MayCompare (p q : Point) (answer : Bool) : Type 0 where
+  pub lent : Lfts 0
+  pub allowed : same-point-reads.Learnt lent (p, (q, tt)) answer (p, (q, tt))
+
 pub record Coordinates : Type 0 where
+  -- the code's values and the code's equality are those that the rest speaks of
+  pub values : (c : Coordinate) (value : ℤ) → MayValue c value ↔ (value ≡ signedOf c)
+  pub compares : (p q : Point) (answer : Bool) → MayCompare p q answer ↔ (answer ≡ samePoint p q)
   -- "a signed value in minutes, north and east positive"
   pub north : (c : Coordinate) → c .letter ≡ code "N" → signedOf c ≡ pos (c .degrees * 60 + c .minutes)
   pub south : (c : Coordinate) → c .letter ≡ code "S" → signedOf c ≡ negℤ (pos (c .degrees * 60 + c .minutes))

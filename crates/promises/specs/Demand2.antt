@@ -27,10 +27,10 @@ pub record Says (bulletin : List ℕ) (r : Record) : Type 0 where
   pub words : wordsIn (textIn bulletin) ≡ messageWords r
 
 pub record Demand2 (Reads : List ℕ → Reply → Type 0) (Writes : Record → List ℕ → Written → List ℕ → Type 0) : Type 0 where
-  -- "The reader takes exactly the message forms of ICAO Annex 3, Amendment 77, as our paper gives them, …
+  -- "The reader takes exactly the message forms of ICAO Annex 3, Amendment 77, as our paper gives them", …
   pub takes-only : (bulletin : List ℕ) (p : Reply) → Reads bulletin p → p .number ≡ 0 → Says bulletin (p .message)
   pub takes-all : (bulletin : List ℕ) (p : Reply) → Reads bulletin p → (r : Record) → Says bulletin r → p ≡ acceptance r
-  -- … each with one meaning"
+  -- … "each with one meaning."
   pub one-meaning : (q r : Record) → good q ≡ true → good r ≡ true → wordsOf q ≡ wordsOf r → q ≡ r
   -- "Writing a good record, where the buffer has room, and reading it gives that record."
   pub written-then-read : (r : Record) (buffer after : List ℕ) (w : Written) (p : Reply) → good r ≡ true → length (textOf r) ≤ length buffer

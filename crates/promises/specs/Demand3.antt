@@ -12,6 +12,7 @@ use lib.ListN.{length, drop}
 use Rattle.message.specs.declared.Record.{Record}
 use Rattle.places.specs.declared.Identity.{Identity}
 use Rattle.places.specs.declared.Place.{Place}
+use Rattle.board.specs.Boards.{placeCount}
 use Rattle.promises.specs.Calls.{Call, History}
 use Rattle.promises.specs.Calls.Call.{posted, listed}
 use Rattle.promises.specs.Accepted.{IsReport, Reported, Known, lastClock}
@@ -46,7 +47,7 @@ pub record Demand3 (Can : History → Type 0) : Type 0 where
   pub one-rows : (h : History) (time : ℕ) (xs ys : List Place) → IsListing h time xs → IsListing h time ys → xs ≡ ys
   pub none-twice : (h : History) (time : ℕ) (rows : List Place) → IsListing h time rows → Pairwise (λ (p q : Place). p .identity ≡ q .identity → ⊥) rows
   -- "and never more than 64 are listed"
-  pub never-more : (h : History) → Can h → (time : ℕ) → lastClock h ≤ time → (rows : List Place) → IsListing h time rows → length rows ≤ 64
+  pub never-more : (h : History) → Can h → (time : ℕ) → lastClock h ≤ time → (rows : List Place) → IsListing h time rows → length rows ≤ placeCount
   -- "by latest accepted correction": what is accepted later has the later letter, so the latest accepted is the greatest
   pub ever-later : (h : History) (clock : ℕ) (r : Record) → Can (posted clock r 0 ∷ h) → (i : Identity) (c : ℕ) → IsReport clock r i c
       → (d : ℕ) → Reported i d h → d < c
@@ -59,4 +60,4 @@ pub record Demand3 (Can : History → Type 0) : Type 0 where
       → Timely h clock → (i : Identity) → Concerns clock r i → clock < i .end → (Known i h → ⊥)
       → ((answer ≡ 23) ↔ Full h clock) × ((answer ≡ 0) ↔ (Full h clock → ⊥))
   pub room-enough : (h : History) → Can h → (clock : ℕ) → lastClock h ≤ clock → (is : List Identity) → List·Nodup is
-      → ((i : Identity) → List·Memᴰ i is → Known i h) → ((i : Identity) → List·Memᴰ i is → clock < i .end) → length is ≤ 64
+      → ((i : Identity) → List·Memᴰ i is → Known i h) → ((i : Identity) → List·Memᴰ i is → clock < i .end) → length is ≤ placeCount

@@ -14,6 +14,7 @@ use Rattle.message.specs.declared.Form.the-variants.{Test, Cancellation}
 use Rattle.message.specs.declared.Record.{Record}
 use Rattle.calendar.specs.Declared.{IsStart, IsEnd, IsTarget}
 use Rattle.places.specs.declared.Identity.{Identity}
+use Rattle.board.specs.Boards.{earliestClock, latestClock}
 use Rattle.promises.specs.Accepted.{IsReport, IsCancellation}
 
 -- A number is given where its cause holds, and those behind it only where that cause does not.
@@ -27,8 +28,8 @@ Accepts n = n ≡ 0
 
 -- "The clock given to a board call is 1,440 to 52,591,679."
 pub record InRange (clock : ℕ) : Type 0 where
-  pub from : 1440 ≤ clock
-  pub until : clock ≤ 52591679
+  pub from : earliestClock ≤ clock
+  pub until : clock ≤ latestClock
 
 -- the message is a report of the identity, or a cancellation that names it
 pub data Concerns (clock : ℕ) (r : Record) (i : Identity) : Type 0 where

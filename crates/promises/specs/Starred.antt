@@ -87,10 +87,10 @@ pub record Starred : Type 0 where
   pub south-90 : Valued northSouth "S90" (negℤ (pos 5400))
   pub north-90-01 : coordinateOf northSouth (bytes "N9001") ≡ noCoordinate
   pub north-90-01-read : readOf (reporting "N OF N9001 SFC/FL100 MOV E 20KT WKN=") ≡ refusal 9 100
-  -- "Clock 12,648,030 (2024-01-18 0830Z): start 12,648,030, end 12,648,270."; the sample is a WS, kind 2
+  -- "Clock 12,648,030 (2024-01-18 0830Z): start 12,648,030, end 12,648,270."
   pub the-18th : minuteOf 2024 1 18 8 30 ≡ 12648030
-  pub start : IsStart 12648030 (dayAndTime 18 8 30) 12648030
-  pub end : IsEnd 2 12648030 (dayAndTime 18 12 30) 12648270
+  pub start : IsStart 12648030 (sample .line .valid .from) 12648030
+  pub end : IsEnd (sample .heading .designator .kind) 12648030 (sample .line .valid .to) 12648270
   -- "Sample posted then; listed at that minute, in hex: `01 00C0FE5E 02 51424242 312020 20 00C0FE5E 00C0FF4E`."
   pub posted : postOf emptyBoard 12648030 sample .answer ≡ 0
   pub listed : listOf withSample 12648030 (page 22)
@@ -108,7 +108,7 @@ pub record Starred : Type 0 where
   -- "Sequence 2, VALID 181100/181230, `CNL SIGMET 1 180830/181230`, posted at 12,648,180: the sample is off the list; at
   -- 12,648,181 the sample posted again gets 22, the cancellation posted again 21."
   pub cancellation-read : readOf (laterSaying "QBBB NORTH SOUND FIR CNL SIGMET 1 180830/181230=") ≡ acceptance cancelling
-  pub target : IsTarget 2 12648270 (dayAndTime 18 8 30) 12648030
+  pub target : IsTarget (cancelling .heading .designator .kind) 12648270 (sample .line .valid .from) 12648030
   pub cancelled : postOf withSample 12648180 cancelling .answer ≡ 0
   pub off-the-list : listOf withCancellation 12648180 (page 22) ≡ written (hex "01" ++ hex "00C0FEF4") (page 22)
   pub late-copy : postOf withCancellation 12648181 sample .answer ≡ 22
