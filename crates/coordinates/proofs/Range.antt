@@ -5,9 +5,9 @@ use mathlib.Core.Bool.{true, false}
 use mathlib.Core.Logic.{_⊎_, inl, inr}
 use mathlib.Core.Path.{_≡_, refl, ap}
 use Prim.Native.Char.{code}
-use Prim.Native.Nat.{ℕ, zero, suc, _+_, _*_, _/_, _%_, _≤_, _<_, zero-le}
+use Prim.Native.Nat.{ℕ, zero, suc, _+_, _*_, _/_, _%_, _≤_, _<_, zero-le, suc-le-suc}
 use native.Mathlib.Omega.{arith}
-use lib.Dec.{eqb, ltb, le→leb}
+use lib.Dec.{eqb, ltb, le→leb, leb→le}
 use lib.IntN.{ℤ, pos, negsuc, negℤ, natAbs}
 use lib.Signed.{_≤ℤ_}
 use borrow.Author.Tests.{ltb-true, ltb-false}
@@ -21,18 +21,17 @@ use Rattle.coordinates.proofs.Minutes.{signed-size}
 pub signed-range : (a : Axis) (c : Coordinate) → goodCoordinate a c ≡ true → natAbs (signedOf c) ≤ a .greatest * 60
 signed-range a c g = rw (signed-size c) (good-size a c g)
 
--- a value of size n at most lies from -n to n
+-- a value of size n at most is one from -n to n
 pub abs-between : (n : ℕ) (z : ℤ) → natAbs z ≤ n → (negℤ (pos n) ≤ℤ z) × (z ≤ℤ pos n)
 abs-between zero (pos k) h = (record { le = le→leb zero k zero-le }, record { le = le→leb k zero h })
 abs-between (suc n) (pos k) h = (record { le = tt }, record { le = le→leb k (suc n) h })
 abs-between zero (negsuc k) h = absurd (omega arith)
 abs-between (suc n) (negsuc k) h = (record { le = le→leb k n (omega arith) }, record { le = tt })
 
-pub latitude-range : (c : Coordinate) → goodCoordinate northSouth c ≡ true → (negℤ (pos 5400) ≤ℤ signedOf c) × (signedOf c ≤ℤ pos 5400)
-latitude-range c g = abs-between 5400 (signedOf c) (signed-range northSouth c g)
-
-pub longitude-range : (c : Coordinate) → goodCoordinate eastWest c ≡ true → (negℤ (pos 10800) ≤ℤ signedOf c) × (signedOf c ≤ℤ pos 10800)
-longitude-range c g = abs-between 10800 (signedOf c) (signed-range eastWest c g)
+pub between-abs : (n : ℕ) (z : ℤ) → (negℤ (pos n) ≤ℤ z) × (z ≤ℤ pos n) → natAbs z ≤ n
+between-abs n (pos k) h = leb→le k n (h .1 .le)
+between-abs zero (negsuc k) h = absurd (h .0 .le)
+between-abs (suc n) (negsuc k) h = suc-le-suc (leb→le k n (h .0 .le))
 
 -- Every value in the range. The coordinate of n minutes on one side of an axis, written with degrees and minutes.
 abbrev atMinute : Axis → ℕ → ℕ → Coordinate

@@ -1,4 +1,3 @@
-pub mod TextOrder
 pub mod OrderLaws
 pub mod RowLaws
 pub mod Loops

@@ -37,8 +37,8 @@ use Rattle.listing.proofs.ListLaws.{refused-untouched}
 use Rattle.promises.specs.Calls.{MayPost, MayList}
 use Rattle.promises.specs.Demand1.{Demand1}
 use Rattle.promises.specs.Demand2.{Says, Demand2}
-use Rattle.promises.proofs.Messages.{Cause, claim-cause}
-use Rattle.promises.proofs.Messages.Cause.{bad, test, no-start, no-end, no-target, ended, report, cancellation}
+use Rattle.promises.proofs.Messages.{Asks, unfit-range, asks}
+use Rattle.promises.proofs.Messages.Asks.{unfit, report, cancellation}
 use Rattle.promises.proofs.Histories.{may-begin, may-post, may-list, begins-so, posts-so, lists-so}
 
 pub may-read : (bulletin : List ℕ) → MayRead bulletin (readOf bulletin)
@@ -79,15 +79,10 @@ refused-listing b time buffer after answer count m n =
 
 -- 36: a board that is not good, and nothing else.
 
-cause-36 : {clock n : ℕ} {r : Record} {p : Place} → Cause clock r n p → n ≡ 36 → ⊥
-cause-36 (bad f) e = omega (arith, e)
-cause-36 (test g f) e = omega (arith, e)
-cause-36 (no-start c n) e = omega (arith, e)
-cause-36 (no-end c s n) e = omega (arith, e)
-cause-36 (no-target g f s t n) e = omega (arith, e)
-cause-36 (ended c l) e = omega (arith, e)
-cause-36 (report m l) e = omega (arith, e)
-cause-36 (cancellation m l) e = omega (arith, e)
+asked-36 : {clock n : ℕ} {r : Record} {p : Place} → Asks clock r n p → n ≡ 36 → ⊥
+asked-36 {clock} {n} {r} (unfit x) e = omega (arith, e, unfit-range clock r x .1)
+asked-36 (report m l) e = omega (arith, e)
+asked-36 (cancellation m l) e = omega (arith, e)
 
 post-36 : (b : Board) (clock : ℕ) (r : Record) → (postOf b clock r .answer ≡ 36) ↔ (goodBoard b ≡ false)
 unfolding postOf claimedOn settled placeAt
@@ -101,7 +96,7 @@ post-36 b clock r = (forth, λ f. rw (bad-refusal b clock f))
         (λ u. rw u (by (eqb (spotOf (dropped clock (b .places)) (claimOf clock r .place) .answer) 0)
         (λ v. rw v (λ e. absurd (omega (arith, e))))
         (λ v. rw v (λ e. absurd (spot-36 (dropped clock (b .places)) (claimOf clock r .place) e)))))
-        (λ u. rw u (λ e. absurd (cause-36 (claim-cause clock r) e)))))
+        (λ u. rw u (λ e. absurd (asked-36 (asks clock r) e)))))
         (λ t. rw t (λ e. absurd (good-refusal b clock g e))))
         (λ f e. f)
 

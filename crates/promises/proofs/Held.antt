@@ -33,6 +33,11 @@ pub record On (ps : List Place) (p : Place) : Type 0 where
   pub there : getD ps at noPlace ≡ p
   pub some : emptyPlace p ≡ false
 
+pub record Holder (ps : List Place) (i : Identity) : Type 0 where
+  pub place : Place
+  pub on : On ps place
+  pub its : place .identity ≡ i
+
 -- No identity is held twice.
 
 two-differ : (ps : List Place) → distinct ps ≡ true → (k j : ℕ) → k < length ps → j < length ps → (k ≡ j → ⊥)
@@ -80,7 +85,7 @@ dropped-on clock ps q o h =
 
 -- Where a place goes, by what is held.
 
-abbrev Unheld : List Place → Identity → Type 0
+abbrev pub Unheld : List Place → Identity → Type 0
 Unheld ps i = (q : Place) → On ps q → q .identity ≡ i → ⊥
 
 pub data Goes (left : List Place) (p : Place) : (answer at : ℕ) → Type 0 where
@@ -88,7 +93,7 @@ pub data Goes (left : List Place) (p : Place) : (answer at : ℕ) → Type 0 whe
   free : {k : ℕ} → Unheld left (p .identity) → k < length left → emptyPlace (getD left k noPlace) ≡ true → Goes left p 0 k
   full : {k : ℕ} → Unheld left (p .identity) → allOf (λ (q : Place). not (emptyPlace q)) left ≡ true → Goes left p 23 k
 
-unheld : (left : List Place) (i : Identity) → length left ≤ indexOf (holds i) left → Unheld left i
+pub unheld : (left : List Place) (i : Identity) → length left ≤ indexOf (holds i) left → Unheld left i
 unheld left i h q o e =
     let none : not (holds i (getD left (o .at) noPlace)) ≡ true = all-at (λ (x : Place). not (holds i x)) left noPlace (index-all (holds i) left h) (o .at) (o .within) in
     let here : getD left (o .at) noPlace .identity ≡ i = ap (λ (x : Place). x .identity) (o .there) ∙ e in

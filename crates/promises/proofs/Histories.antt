@@ -23,21 +23,17 @@ use Rattle.listing.proofs.OrderLaws.{precedes-irreflexive}
 use Rattle.promises.specs.Calls.{Call, History, MayBegin, MayPost, MayList, Run, Happens}
 use Rattle.promises.specs.Calls.Call.{posted, listed}
 use Rattle.promises.specs.Calls.Run.{begun, then-posted, then-listed}
-use Rattle.promises.specs.Accepted.{IsReport, Reported, Known}
-use Rattle.promises.specs.Accepted.Known.{by-report, by-cancellation}
-use Rattle.promises.specs.Answers.Concerns.{reports, cancels}
+use Rattle.promises.specs.Accepted.{Known}
 use Rattle.promises.specs.Answers.{Timely, Concerns, Full, PostAnswered}
-use Rattle.promises.specs.Answers.PostAnswered.{outside as by-range, early as by-clock, bad as by-record, test as by-test, no-start as by-start, no-end as by-end, no-target as by-target, ended as by-time, cancelled as by-mark, held as by-correction, again as by-target-marked, full as by-room, report-accepted, cancellation-accepted}
 use Rattle.promises.specs.InForce.{IsListing, ListAnswered}
 use Rattle.listing.specs.Listings.{listing}
 use Rattle.promises.specs.InForce.ListAnswered.{outside, early, short, whole}
 use Rattle.promises.specs.Demand3.{Demand3}
-use Rattle.promises.proofs.Messages.{reportedPlace, markedPlace, cause-claim, one-identity}
-use Rattle.promises.proofs.Messages.Cause.{report, cancellation}
-use Rattle.promises.proofs.Tracks.{claims-report, tracked}
+use Rattle.promises.proofs.Messages.{one-identity}
+use Rattle.promises.proofs.Tracks.{tracked}
 use Rattle.promises.proofs.Room.{lasting-most}
-use Rattle.promises.proofs.Answering.{answer-cause, cause-answer}
-use Rattle.promises.proofs.Listing.{rows-listed, listed-most, one-listing, list-cause}
+use Rattle.promises.proofs.Answering.{answer-cause, cause-answer, later, only-room, new-full, new-accepted}
+use Rattle.promises.proofs.Listing.{in-numbers, rows-listed, listed-most, one-listing, list-cause}
 
 -- What the contracts allow.
 
@@ -91,46 +87,7 @@ turned-away : (h : History) (clock : ℕ) (r : Record) (answer : ℕ) → Happen
 turned-away h clock r answer hp n =
     let l = last-post (hp .run) in
     let t = tracked (l .run) in
-    (λ e. subst (λ (k : ℕ). PostAnswered h clock r k) (sym (l .says) ∙ e) (answer-cause t clock r), λ a. l .says ∙ cause-answer t clock r a)
-
-only-room : {h : History} {clock n : ℕ} {r : Record} → PostAnswered h clock r n → n ≡ 23 → Full h clock
-only-room (by-range o) e = absurd (omega (arith, e))
-only-room (by-clock x l) e = absurd (omega (arith, e))
-only-room (by-record y f) e = absurd (omega (arith, e))
-only-room (by-test y g f) e = absurd (omega (arith, e))
-only-room (by-start y c k) e = absurd (omega (arith, e))
-only-room (by-end y c s k) e = absurd (omega (arith, e))
-only-room (by-target y g f s x k) e = absurd (omega (arith, e))
-only-room (by-time y c l) e = absurd (omega (arith, e))
-only-room (by-mark y m l x) e = absurd (omega (arith, e))
-only-room (by-correction y m l u x le) e = absurd (omega (arith, e))
-only-room (by-target-marked y m l x) e = absurd (omega (arith, e))
-only-room (by-room y c l u f) e = f
-only-room (report-accepted y m l u later room) e = absurd (omega (arith, e))
-only-room (cancellation-accepted y m l u room) e = absurd (omega (arith, e))
-
-later : {h : History} {clock n : ℕ} {r : Record} → PostAnswered h clock r n → n ≡ 0 → (i : Identity) (c : ℕ) → IsReport clock r i c → (d : ℕ) → Reported i d h → d < c
-later (by-range o) e i c m d x = absurd (omega (arith, e))
-later (by-clock y l) e i c m d x = absurd (omega (arith, e))
-later (by-record y f) e i c m d x = absurd (omega (arith, e))
-later (by-test y g f) e i c m d x = absurd (omega (arith, e))
-later (by-start y k n) e i c m d x = absurd (omega (arith, e))
-later (by-end y k s n) e i c m d x = absurd (omega (arith, e))
-later (by-target y g f s v n) e i c m d x = absurd (omega (arith, e))
-later (by-time y k l) e i c m d x = absurd (omega (arith, e))
-later (by-mark y k l v) e i c m d x = absurd (omega (arith, e))
-later (by-correction y k l u v le) e i c m d x = absurd (omega (arith, e))
-later (by-target-marked y k l v) e i c m d x = absurd (omega (arith, e))
-later (by-room y k l u f) e i c m d x = absurd (omega (arith, e))
-later {h} {clock} {n} {r} (report-accepted {i = j} {c = b} y k l u after room) e i c m d x =
-    let one = cause-claim (report k l) in
-    let same : reportedPlace j b ≡ reportedPlace i c = sym (ap (λ p. p .place) one) ∙ claims-report (ap (λ p. p .answer) one) m in
-    let lt = after d (subst (λ (p : Place). Reported (p .identity) d h) (sym same) x) in
-    omega (arith, lt, ap (λ (p : Place). p .correction) same)
-later (cancellation-accepted {i = j} y k l u room) e i c m d x =
-    let one = cause-claim (cancellation k l) in
-    let same : markedPlace j ≡ reportedPlace i c = sym (ap (λ p. p .place) one) ∙ claims-report (ap (λ p. p .answer) one) m in
-    clash true refl (ap (λ (p : Place). p .marked) same)
+    (λ e. subst (λ (k : ℕ). PostAnswered h clock r k) (sym (l .says) ∙ e) (answer-cause t clock r), λ a. l .says ∙ cause-answer t clock r n a)
 
 -- Listings.
 
@@ -170,17 +127,12 @@ at-most h time buffer answer count after hp =
     let same : count ≡ listOf (l .board) time buffer .count = ap (λ (u : Wrote). u .count) (l .says) in
     omega (arith, same, count-most (l .board) time buffer)
 
--- a message of a new identity is accepted where there is room
-new-accepted : {h : History} {clock : ℕ} {r : Record} {i : Identity} → Timely h clock → Concerns clock r i → clock < i .end → (Known i h → ⊥) → (Full h clock → ⊥) → PostAnswered h clock r 0
-new-accepted y (reports c m) l u n = report-accepted y m l (λ x. u (by-cancellation x)) (λ d x. absurd (u (by-report d x))) (λ f. absurd (n f))
-new-accepted y (cancels m) l u n = cancellation-accepted y m l (λ x. u (by-cancellation x)) (λ f. absurd (n f))
-
 room-again : (h : History) (clock : ℕ) (r : Record) (answer : ℕ) → Happens (posted clock r answer ∷ h) → Timely h clock → (i : Identity) → Concerns clock r i → clock < i .end
     → (Known i h → ⊥) → ((answer ≡ 23) ↔ Full h clock) × ((answer ≡ 0) ↔ (Full h clock → ⊥))
 room-again h clock r answer hp y i c l u =
     let exact = turned-away h clock r answer hp in (
-      (λ e. only-room (exact 23 .0 e) refl, λ f. exact 23 .1 (by-room y c l u f)),
-      (λ e f. absurd (omega (arith, e, exact 23 .1 (by-room y c l u f))), λ n. exact 0 .1 (new-accepted y c l u n)),
+      (λ e. only-room h clock r (exact 23 .0 e), λ f. exact 23 .1 (new-full h clock r y c l u f)),
+      (λ e f. absurd (omega (arith, e, exact 23 .1 (new-full h clock r y c l u f))), λ n. exact 0 .1 (new-accepted h clock r y c l u n)),
     )
 
 pub demand-3 : Demand3 Happens
@@ -204,12 +156,12 @@ demand-3 =
       one-rows = λ h time xs ys. one-listing;
       none-twice =
           λ h time rows i.
-          Pairwise·imp {S = λ (p q : Place). p .identity ≡ q .identity → ⊥} (λ p q o e. precedes-irreflexive (subst (λ (x : Identity). Precedes x (q .identity)) e o)) (i .ordered);
+          Pairwise·imp {S = λ (p q : Place). p .identity ≡ q .identity → ⊥} (λ p q o e. precedes-irreflexive (subst (λ (x : Identity). Precedes x (q .identity)) e o)) (in-numbers i);
       never-more =
           λ h hp time l rows i.
           let t = tracked (hp .run) in
           subst (λ (xs : List Place). length xs ≤ 64) (one-listing (rows-listed t l) i) (listed-most t l);
-      ever-later = λ h clock r hp i c m. later (turned-away h clock r 0 hp 0 .0 refl) refl i c m;
+      ever-later = λ h clock r hp i c m. later h clock r (turned-away h clock r 0 hp 0 .0 refl) i c m;
       turned-away = turned-away;
       one-identity = λ clock r i j. one-identity;
       room-again = room-again;

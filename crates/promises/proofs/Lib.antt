@@ -1,11 +1,15 @@
 pub mod Messages
 pub mod Held
+pub mod Refusing
 pub mod Tracks
 pub mod Room
 pub mod Answering
+pub mod OrderLaws
 pub mod Listing
 pub mod Histories
 pub mod Contracts
+pub mod CoordinateLaws
 pub mod StarredLaws
 pub mod FraudLaws
 pub mod FunctionLaws
+pub mod BoardAnswers

@@ -30,6 +30,7 @@ use Rattle.promises.specs.InForce.{InForce, IsListing, ListAnswered}
 use Rattle.listing.specs.Listings.{listing}
 use Rattle.promises.specs.InForce.ListAnswered.{outside as by-range, early as by-clock, short, whole}
 use Rattle.promises.proofs.Held.{On}
+use Rattle.promises.proofs.OrderLaws.{formed, reported-formed, rows-in-order}
 use Rattle.places.proofs.HeldLaws.{ends-some}
 use Rattle.promises.proofs.Tracks.{Stands, Tracks, stands-later, stands-unnamed, stands-as}
 use Rattle.promises.proofs.Tracks.Stands.{stands-marked, stands-reported}
@@ -124,6 +125,14 @@ unfolding rowsOf
 row-all time x ps o f =
     sorted-all x [] (selected time ps) (inr (rw (← (o .there)) (selected-all time ps (o .at) (o .within) (rw (o .there) f))))
 
+-- Rows in force are well-formed, so that they stand in the order of the numbers too.
+
+rows-formed : {h : History} {time : ℕ} {rows : List Place} → ((x : Place) → List·Memᴰ x rows → InForce h time x) → (x : Place) → List·Memᴰ x rows → formed (x .identity) ≡ true
+rows-formed those x m = reported-formed (those x m .reported)
+
+pub in-numbers : {h : History} {time : ℕ} {rows : List Place} → IsListing h time rows → Pairwise Before rows
+in-numbers {rows = rows} i = rows-in-order rows (rows-formed (i .those)) .1 (i .ordered)
+
 -- Of a board that tracks its history.
 
 module _ {h : History} {b : Board} (t : Tracks h b) {time : ℕ} (l : lastClock h ≤ time) where
@@ -165,12 +174,15 @@ module _ {h : History} {b : Board} (t : Tracks h b) {time : ℕ} (l : lastClock 
       let o = t .finds (x .identity) (by-report (x .correction) (f .reported)) (omega (arith, l, f .lasting)) in
       subst (λ (q : Place). On (b .places) q) (forced-place x f (o .place) (o .its) (t .stands (o .place) (o .on))) (o .on)
 
+  row-in-force : (x : Place) → List·Memᴰ x (rowsOf time (b .places)) → InForce h time x
+  row-in-force x m = let k = row-those time x (b .places) m in in-force x (k .0) (k .1)
+
   pub rows-listed : IsListing h time (rowsOf time (b .places))
   rows-listed =
       record {
-        those = λ x m. let k = row-those time x (b .places) m in in-force x (k .0) (k .1);
+        those = row-in-force;
         all = λ x f. row-all time x (b .places) (forced-on x f) (is-forced x f);
-        ordered = rows-ordered time (b .places) (board-parts b (t .sound) .distincts);
+        ordered = rows-in-order (rowsOf time (b .places)) (rows-formed row-in-force) .0 (rows-ordered time (b .places) (board-parts b (t .sound) .distincts));
       }
 
   pub listed-most : length (rowsOf time (b .places)) ≤ 64
@@ -202,7 +214,7 @@ same-rows (x ∷ xs) (y ∷ ys) o u f g =
 
 pub one-listing : {h : History} {time : ℕ} {xs ys : List Place} → IsListing h time xs → IsListing h time ys → xs ≡ ys
 one-listing {h} {time} {xs} {ys} a c =
-    same-rows xs ys (a .ordered) (c .ordered) (λ z m. c .all z (a .those z m)) (λ z m. a .all z (c .those z m))
+    same-rows xs ys (in-numbers a) (in-numbers c) (λ z m. c .all z (a .those z m)) (λ z m. a .all z (c .those z m))
 
 -- The answer to a listing.
 

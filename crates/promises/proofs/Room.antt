@@ -24,8 +24,8 @@ use Rattle.board.proofs.Invariant.{board-parts, dropped-length}
 use Rattle.promises.specs.Calls.{History}
 use Rattle.promises.specs.Accepted.{Known, lastClock}
 use Rattle.promises.specs.Answers.{Full}
-use Rattle.promises.proofs.Held.{kept-some, on-dropped, dropped-on}
-use Rattle.promises.proofs.Tracks.{Holder, Tracks, stands-known}
+use Rattle.promises.proofs.Held.{Holder, kept-some, on-dropped, dropped-on}
+use Rattle.promises.proofs.Tracks.{Tracks, stands-known}
 
 -- The identities that are held.
 unfoldable heldOf : List Place → List Identity

@@ -2,8 +2,9 @@
 -- Assumes nothing.
 use mathlib.Core.Bool.{true, false}
 use mathlib.Core.List.{List, _∷_, _++_}
-use mathlib.Core.Path.{_≡_, refl, ap, _∙_}
-use Prim.Native.Nat.{ℕ}
+use mathlib.Core.Path.{_≡_, refl, ap, subst, _∙_}
+use Prim.Native.Nat.{ℕ, _<_}
+use native.Mathlib.Omega.{arith}
 use lib.ListN.{replicate}
 use Rattle.lists.specs.Base.{worthAfter, places}
 use Rattle.lists.specs.Lists.{indexOf, allOf, same}
@@ -11,6 +12,7 @@ use Rattle.coordinates.specs.Coordinates.{goodCoordinate, emptyCoordinate}
 use Rattle.coordinates.specs.Points.{emptyPoint}
 use Rattle.figures.specs.Figures.{figuresOf}
 use Rattle.figures.specs.Letters.{goodLetters, lettersOf}
+use Rattle.groups.specs.declared.Group.{Group}
 use Rattle.groups.specs.Groups.{goodGroup, goodPeriod, goodTime}
 use Rattle.headings.specs.Headings.{typeWords, goodDesignator, goodCorrection}
 use Rattle.headings.specs.Sequences.{goodSequence, sequenceOf, spellSequence}
@@ -22,10 +24,10 @@ use Rattle.message.specs.Names.{goodName, emptyName}
 use Rattle.message.specs.Locations.{goodSide, emptySide, goodBound, noPoints, goodExtent, emptyExtent}
 use Rattle.message.specs.Records.{goodHeading, goodLine, goodArea, goodForm, good, namesItself}
 use Rattle.message.specs.Reports.{emptyVolcano, goodPhenomenon, goodObservation, emptyObservation, goodEnding, emptyEnding, goodReport, emptyReport}
-use Rattle.message.specs.Sample.{sample}
+use Rattle.message.specs.Sample.{dayAndTime, sample}
 use Rattle.message.specs.declared.Record.{Record}
 use Rattle.cases.specs.Samples.{cancelling}
-use Rattle.calendar.specs.Gregorian.{firstDay, monthLength, dayFrom, dayOfMonth}
+use Rattle.calendar.specs.Gregorian.{never, firstDay, monthLength, dayFrom, dayOfMonth}
 use Rattle.calendar.specs.Instants.{matches, onDay, instantIn, startOf, endOf, targetOf}
 use Rattle.places.specs.Padded.{padded, unpadded, heldSequence}
 use Rattle.places.specs.Places.{sameIdentity, noPlace, emptyPlace, heldIdentity, heldCorrection, heldPlace, goodPlace}
@@ -39,7 +41,8 @@ use Rattle.listing.specs.Answers.{listingOf, listOf}
 use Rattle.board.specs.declared.Board.{Board}
 use Rattle.places.specs.declared.Identity.{Identity}
 use Rattle.places.specs.declared.Place.{Place}
-use Rattle.calendar.proofs.CalendarLaws.{case-leap-year, case-at-the-clock, case-at-the-limit}
+use Rattle.calendar.specs.Declared.{IsStart, IsEnd, IsTarget}
+use Rattle.calendar.proofs.CalendarLaws.{start-found, start-none, end-found, target-found, case-leap-year, case-common-year, case-at-the-clock, case-at-the-limit}
 use Rattle.coordinates.proofs.Cases.{n00, s0000, s90, n9001}
 use Rattle.cases.proofs.Readings.{sample-read, sample-E180, sample-E181, sample-N9001, sample-FCST, sample-NC, sample-open, cancellation-read}
 use Rattle.message.proofs.Samples.{sample-length, sample-text}
@@ -122,6 +125,20 @@ the-28th : minuteOf 2023 2 28 23 0 ≡ 12182340
 unfolding firstDay monthLength
 the-28th = refl
 
+-- instants: what is found is what the paper means
+start-is : (clock : ℕ) (g : Group) (t : ℕ) → startOf clock g ≡ t → t < never → IsStart clock g t
+start-is clock g t e l = subst (IsStart clock g) e (start-found clock g (rw e l))
+
+end-is : (kind start : ℕ) (g : Group) (t : ℕ) → endOf kind start g ≡ t → t < never → IsEnd kind start g t
+end-is kind start g t e l = subst (IsEnd kind start g) e (end-found kind start g (rw e l))
+
+target-is : (kind end : ℕ) (g : Group) (t : ℕ) → targetOf kind end g ≡ t → t < never → IsTarget kind end g t
+target-is kind end g t e l = subst (IsTarget kind end g) e (target-found kind end g (rw e l))
+
+sample-target : targetOf 2 12648270 (dayAndTime 18 8 30) ≡ 12648030
+unfolding opened
+sample-target = refl
+
 -- the boards of the cases are these two
 with-sample : withSample ≡ boardAt samplePlace 12648030
 with-sample = ap (λ x. x .board) sample-posted
@@ -146,17 +163,19 @@ starred =
       north-90-01 = n9001;
       north-90-01-read = sample-N9001;
       the-18th = the-18th;
-      start = case-at-the-clock;
-      end = case-at-the-limit;
+      start = start-is 12648030 (dayAndTime 18 8 30) 12648030 case-at-the-clock (omega (arith));
+      end = end-is 2 12648030 (dayAndTime 18 12 30) 12648270 case-at-the-limit (omega (arith));
       posted = ap (λ x. x .answer) sample-posted;
       listed = ap (λ (b : Board). listOf b 12648030 (page 22)) with-sample ∙ listed-then;
       last-minute = ap (λ (b : Board). listOf b 12648269 (page 22)) with-sample ∙ listed-late;
       over = ap (λ (b : Board). listOf b 12648270 (page 22)) with-sample ∙ listed-over;
       the-29th = the-29th;
-      leap-year = case-leap-year;
+      leap-year = start-is 12709380 (dayAndTime 1 1 0) 12709500 case-leap-year (omega (arith));
       the-28th = the-28th;
+      no-29th = start-none 12182340 (dayAndTime 29 1 0) case-common-year;
       common-year = twenty-ninth;
       cancellation-read = cancellation-read;
+      target = target-is 2 12648270 (dayAndTime 18 8 30) 12648030 sample-target (omega (arith));
       cancelled = ap (λ (b : Board). postOf b 12648180 cancelling .answer) with-sample ∙ ap (λ x. x .answer) sample-cancelled;
       off-the-list = ap (λ (b : Board). listOf b 12648180 (page 22)) with-cancellation ∙ listed-cancelled;
       late-copy = ap (λ (b : Board). postOf b 12648181 sample .answer) with-cancellation ∙ sample-again;

@@ -30,21 +30,16 @@ use Rattle.promises.specs.Accepted.{IsReport, IsCancellation, Reported, 
 use Rattle.promises.specs.Accepted.Reported.{report-now, report-before}
 use Rattle.promises.specs.Accepted.Cancelled.{cancelled-now, cancelled-before}
 use Rattle.promises.specs.Accepted.Known.{by-report, by-cancellation}
-use Rattle.promises.specs.Answers.Concerns.{reports, cancels}
-use Rattle.promises.proofs.Messages.{Cause, reportedPlace, markedPlace, claim-cause, cause-claim}
-use Rattle.promises.proofs.Messages.Cause.{bad, test, no-start, no-end, no-target, ended, report, cancellation}
-use Rattle.promises.proofs.Held.{On, Step, step}
+use Rattle.promises.specs.Refusals.Concerns.{reports, cancels}
+use Rattle.promises.proofs.Messages.{Asks, reportedPlace, markedPlace, unfit-range, no-both, one-identity, asks}
+use Rattle.promises.proofs.Messages.Asks.{unfit, report, cancellation}
+use Rattle.promises.proofs.Held.{On, Holder, Step, step}
 
 -- What a held place says of the history.
 pub data Stands (h : History) (p : Place) : Type 0 where
   stands-marked : p .marked ≡ true → Cancelled (p .identity) h → Stands h p
   stands-reported : p .marked ≡ false → Reported (p .identity) (p .correction) h → ((c : ℕ) → Reported (p .identity) c h → c ≤ p .correction)
       → (Cancelled (p .identity) h → ⊥) → Stands h p
-
-pub record Holder (ps : List Place) (i : Identity) : Type 0 where
-  pub place : Place
-  pub on : On ps place
-  pub its : place .identity ≡ i
 
 pub record Tracks (h : History) (b : Board) : Type 0 where
   pub sound : goodBoard b ≡ true
@@ -147,25 +142,26 @@ refused-same clock answer r h n =
 
 -- An accepted post adds its message, and nothing else.
 
-pub claims-report : {clock : ℕ} {r : Record} {i : Identity} {c : ℕ} → claimOf clock r .answer ≡ 0 → IsReport clock r i c → claimOf clock r .place ≡ reportedPlace i c
-claims-report {clock} {r} {i} {c} z m =
-    by (leb (i .end) clock)
-    (λ t. absurd (omega (arith, z, ap (λ x. x .answer) (cause-claim (ended (reports c m) (leb-true (i .end) clock t))))))
-    (λ f. ap (λ x. x .place) (cause-claim (report m (leb-false (i .end) clock f))))
+module _ {clock : ℕ} {r : Record} {i : Identity} where
+  asked-report : {n c : ℕ} {p : Place} → Asks clock r n p → n ≡ 0 → IsReport clock r i c → p ≡ reportedPlace i c
+  asked-report (unfit x) z m = absurd (omega (arith, z, unfit-range clock r x .0))
+  asked-report {c = c} (report {c = d} k l) z m =
+      let same = one-identity (reports d k) (reports c m) in
+      λ j. record { identity = same j; correction = (k .corrected ∙ sym (m .corrected)) j; marked = false }
+  asked-report (cancellation k l) z m = absurd (no-both m k)
 
-pub claims-cancellation : {clock : ℕ} {r : Record} {i : Identity} → claimOf clock r .answer ≡ 0 → IsCancellation clock r i → claimOf clock r .place ≡ markedPlace i
-claims-cancellation {clock} {r} {i} z m =
-    by (leb (i .end) clock)
-    (λ t. absurd (omega (arith, z, ap (λ x. x .answer) (cause-claim (ended (cancels m) (leb-true (i .end) clock t))))))
-    (λ f. ap (λ x. x .place) (cause-claim (cancellation m (leb-false (i .end) clock f))))
+  asked-cancellation : {n : ℕ} {p : Place} → Asks clock r n p → n ≡ 0 → IsCancellation clock r i → p ≡ markedPlace i
+  asked-cancellation (unfit x) z m = absurd (omega (arith, z, unfit-range clock r x .0))
+  asked-cancellation (report k l) z m = absurd (no-both k m)
+  asked-cancellation (cancellation k l) z m = ap markedPlace (one-identity (cancels k) (cancels m))
 
 module _ {clock answer : ℕ} {r : Record} {h : History} (z : claimOf clock r .answer ≡ 0) where
   new-report : {i : Identity} {c : ℕ} → Reported i c (posted clock r answer ∷ h) → (claimOf clock r .place ≡ reportedPlace i c) ⊎ Reported i c h
-  new-report (report-now e m) = inl (claims-report z m)
+  new-report (report-now e m) = inl (asked-report (asks clock r) z m)
   new-report (report-before m) = inr m
 
   new-cancelled : {i : Identity} → Cancelled i (posted clock r answer ∷ h) → (claimOf clock r .place ≡ markedPlace i) ⊎ Cancelled i h
-  new-cancelled (cancelled-now e m) = inl (claims-cancellation z m)
+  new-cancelled (cancelled-now e m) = inl (asked-cancellation (asks clock r) z m)
   new-cancelled (cancelled-before m) = inr m
 
 -- what a held place has not against one that comes
@@ -184,15 +180,10 @@ later-then q p z n =
     (λ t. let w = rw (m, n, t) at z in absurd (omega (arith, w)))
     (λ f. leb-false (p .correction) (q .correction) f)
 
-cause-lasts : {clock n : ℕ} {r : Record} {p : Place} → Cause clock r n p → n ≡ 0 → clock < p .identity .end
-cause-lasts (bad f) z = absurd (omega (arith, z))
-cause-lasts (test g f) z = absurd (omega (arith, z))
-cause-lasts (no-start c n) z = absurd (omega (arith, z))
-cause-lasts (no-end c s n) z = absurd (omega (arith, z))
-cause-lasts (no-target g f s e n) z = absurd (omega (arith, z))
-cause-lasts (ended c l) z = absurd (omega (arith, z))
-cause-lasts (report m l) z = l
-cause-lasts (cancellation m l) z = l
+pub asked-lasts : {clock n : ℕ} {r : Record} {p : Place} → Asks clock r n p → n ≡ 0 → clock < p .identity .end
+asked-lasts {clock} {n} {r} (unfit x) z = absurd (omega (arith, z, unfit-range clock r x .0))
+asked-lasts (report m l) z = l
+asked-lasts (cancellation m l) z = l
 
 pub stands-later : {h : History} {q : Place} → Stands h q → q .marked ≡ false → (d : ℕ) → Reported (q .identity) d h → d ≤ q .correction
 stands-later {h} {q} (stands-marked m c) n d x = clash (q .marked) m n
@@ -225,7 +216,7 @@ module _ {h : History} {b : Board} (t : Tracks h b) (clock answer : ℕ) (r : Re
   claimed = accepted-parts b clock r z .claimed
 
   lasts : clock < p .identity .end
-  lasts = cause-lasts (claim-cause clock r) claimed
+  lasts = asked-lasts (asks clock r) claimed
 
   timely : lastClock h ≤ clock
   timely = rw (← (t .clock)) (unrefused-parts b clock (accepted-parts b clock r z .unrefused) .no-earlier)
@@ -252,13 +243,8 @@ module _ {h : History} {b : Board} (t : Tracks h b) (clock answer : ℕ) (r : Re
       let most : d ≤ y .0 .correction = stands-later (y .1 .1 .1) (unmarked-then (y .0) p (y .1 .1 .0)) d (rw (y .1 .0) x) in
       omega (arith, most, later-then (y .0) p (y .1 .1 .0) n)
 
-  new-stands : {n : ℕ} {q : Place} → Cause clock r n q → n ≡ 0 → p ≡ q → Stands g q
-  new-stands (bad f) y s = absurd (omega (arith, y))
-  new-stands (test u f) y s = absurd (omega (arith, y))
-  new-stands (no-start c n) y s = absurd (omega (arith, y))
-  new-stands (no-end c u n) y s = absurd (omega (arith, y))
-  new-stands (no-target u f v x n) y s = absurd (omega (arith, y))
-  new-stands (ended c l) y s = absurd (omega (arith, y))
+  new-stands : {n : ℕ} {q : Place} → Asks clock r n q → n ≡ 0 → p ≡ q → Stands g q
+  new-stands (unfit x) y s = absurd (omega (arith, y, unfit-range clock r x .0))
   new-stands (report {i} {c} m l) y s =
       stands-reported refl (report-now e m)
       (λ d x. ⊎-elim
@@ -314,7 +300,7 @@ module _ {h : History} {b : Board} (t : Tracks h b) (clock answer : ℕ) (r : Re
         stands =
             λ q o.
             ⊎-elim
-            (λ (k : q ≡ p). subst (λ (x : Place). Stands g x) (sym k) (new-stands (claim-cause clock r) claimed refl))
+            (λ (k : q ≡ p). subst (λ (x : Place). Stands g x) (sym k) (new-stands (asks clock r) claimed refl))
             (λ (k : On (b .places) q × (clock < q .identity .end) × (q .identity ≡ p .identity → ⊥)). still-stands (k .2) (t .stands q (k .0)))
             (stepped .only q o);
         finds = λ i k l. new-finds i k (rw (eq-eqb answer 0 e) at l);

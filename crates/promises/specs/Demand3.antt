@@ -1,8 +1,9 @@
--- The customer's third demand: "From an empty board, over all sequences of calls, the board lists exactly the weather reports accepted so
--- far, by latest accepted correction, whose period holds the time asked and which no accepted cancellation names: none twice, in a fixed
--- order, never more than 64. A post is turned away exactly for the causes numbered in the paper; room freed by ended messages is used again."
+-- The customer's third demand: "From an empty board, over all sequences of calls: asked at a time in its range, no earlier than the last post it
+-- accepted, with room for the answer, the board lists exactly the weather reports accepted so far, by latest accepted correction, whose period
+-- holds that time and which no accepted cancellation names. None is listed twice, the order is fixed, and never more than 64 are listed. A post
+-- is turned away exactly for the causes numbered in our paper, and room freed by ended messages is used again."
 -- A board is known by the histories that can happen with it, and the demand is made of those alone. Ours are `Happens`.
--- Assumes nothing.
+-- Believed.
 use mathlib.Core.List.{List, [], _∷_, _++_, List·Memᴰ, List·Nodup, Pairwise}
 use mathlib.Core.Logic.{_↔_}
 use mathlib.Core.Path.{_≡_}
@@ -29,8 +30,8 @@ pub record Demand3 (Can : History → Type 0) : Type 0 where
   pub one-answer : (h : History) (clock : ℕ) (r : Record) (m n : ℕ) → Can (posted clock r m ∷ h) → Can (posted clock r n ∷ h) → m ≡ n
   pub one-listing : (h : History) (time : ℕ) (buffer : List ℕ) (m n j k : ℕ) (x y : List ℕ)
       → Can (listed time buffer m j x ∷ h) → Can (listed time buffer n k y ∷ h) → (m ≡ n) × (j ≡ k) × (x ≡ y)
-  -- "the board lists exactly the weather reports accepted so far, by latest accepted correction, whose period holds the time asked and which no
-  -- accepted cancellation names: none twice, in a fixed order": at a time in range, no earlier than the last accepted post, and with room
+  -- "asked at a time in its range, no earlier than the last post it accepted, with room for the answer, the board lists exactly the weather
+  -- reports accepted so far, by latest accepted correction, whose period holds that time and which no accepted cancellation names."
   pub lists-exactly : (h : History) (time : ℕ) (buffer : List ℕ) (answer count : ℕ) (after : List ℕ) → Can (listed time buffer answer count after ∷ h)
       → Timely h time → (rows : List Place) → IsListing h time rows → length (listing time rows) ≤ length buffer
       → (answer ≡ 0) × (count ≡ length (listing time rows)) × (after ≡ listing time rows ++ drop (length (listing time rows)) buffer)
@@ -39,16 +40,16 @@ pub record Demand3 (Can : History → Type 0) : Type 0 where
       → ListAnswered h time buffer answer count after
   pub at-most-1093 : (h : History) (time : ℕ) (buffer : List ℕ) (answer count : ℕ) (after : List ℕ) → Can (listed time buffer answer count after ∷ h)
       → count ≤ 1093
-  -- there are such rows, and only these; no identity stands in two of them
+  -- "None is listed twice, the order is fixed": there are such rows, and only these; no identity stands in two of them
   pub some-rows : (h : History) → Can h → (time : ℕ) → lastClock h ≤ time → (rows : List Place) × IsListing h time rows
   pub one-rows : (h : History) (time : ℕ) (xs ys : List Place) → IsListing h time xs → IsListing h time ys → xs ≡ ys
   pub none-twice : (h : History) (time : ℕ) (rows : List Place) → IsListing h time rows → Pairwise (λ (p q : Place). p .identity ≡ q .identity → ⊥) rows
-  -- "never more than 64"
+  -- "and never more than 64 are listed"
   pub never-more : (h : History) → Can h → (time : ℕ) → lastClock h ≤ time → (rows : List Place) → IsListing h time rows → length rows ≤ 64
   -- "by latest accepted correction": what is accepted later has the later letter, so the latest accepted is the greatest
   pub ever-later : (h : History) (clock : ℕ) (r : Record) → Can (posted clock r 0 ∷ h) → (i : Identity) (c : ℕ) → IsReport clock r i c
       → (d : ℕ) → Reported i d h → d < c
-  -- "A post is turned away exactly for the causes numbered in the paper"; a message concerns one identity
+  -- "A post is turned away exactly for the causes numbered in our paper"; a message concerns one identity
   pub turned-away : (h : History) (clock : ℕ) (r : Record) (answer : ℕ) → Can (posted clock r answer ∷ h) → (n : ℕ) → (answer ≡ n) ↔ PostAnswered h clock r n
   pub one-identity : (clock : ℕ) (r : Record) (i j : Identity) → Concerns clock r i → Concerns clock r j → i ≡ j
   -- "room freed by ended messages is used again": a message of a new identity gets 23 exactly where 64 accepted identities, reported or

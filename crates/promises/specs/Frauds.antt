@@ -1,7 +1,7 @@
 -- 01, "Four frauds must be provably excluded. A reader that refuses everything, or replies with one fixed record, breaks demand 2. A board that
 -- refuses every post, does nothing, or obeys its first post and afterwards only reports success or refuses, breaks demand 3. A made-up listing
 -- count breaks demand 3 as well". Of any reader, writer and board whatever: whoever meets the demands is no such fraud.
--- Assumes nothing.
+-- Believed.
 use mathlib.Core.List.{List, [], _∷_}
 use mathlib.Core.Logic.{_↔_}
 use mathlib.Core.Path.{_≡_}

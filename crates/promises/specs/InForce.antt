@@ -1,18 +1,19 @@
--- Demand 3: "the board lists exactly the weather reports accepted so far, by latest accepted correction, whose period holds the time asked and
--- which no accepted cancellation names: none twice, in a fixed order". And 01, "Listing: 36, 16, 17, then 14 (count 0, buffer untouched)"; 36
--- has no cause here either: no history leads to a bad board.
--- Assumes nothing.
+-- Demand 3: "asked at a time in its range, no earlier than the last post it accepted, with room for the answer, the board lists exactly the
+-- weather reports accepted so far, by latest accepted correction, whose period holds that time and which no accepted cancellation names. None
+-- is listed twice, the order is fixed". And 01, "Listing: 36, 16, 17, then 14 (count 0, buffer untouched)."; 36 has no cause here either: no
+-- history leads to a bad board.
+-- Believed.
 use mathlib.Core.Bool.{false}
 use mathlib.Core.List.{List, _++_, List·Memᴰ, Pairwise}
 use mathlib.Core.Path.{_≡_}
 use Prim.Native.Nat.{ℕ, _≤_, _<_}
 use lib.ListN.{length, drop}
 use Rattle.places.specs.declared.Place.{Place}
-use Rattle.listing.specs.Order.{Before}
 use Rattle.listing.specs.Listings.{listing}
 use Rattle.promises.specs.Calls.{History}
 use Rattle.promises.specs.Accepted.{Reported, Cancelled, lastClock}
 use Rattle.promises.specs.Answers.{InRange, Timely}
+use Rattle.promises.specs.Order.{InOrder}
 
 -- A row, an identity with a correction, is in force at the time: it was reported, with no later correction, no accepted cancellation names
 -- it, and "start <= time < end". A `Place` also has a mark, which no record of a listing shows; a row has none.
@@ -28,7 +29,7 @@ pub record InForce (h : History) (time : ℕ) (p : Place) : Type 0 where
 pub record IsListing (h : History) (time : ℕ) (rows : List Place) : Type 0 where
   pub those : (p : Place) → List·Memᴰ p rows → InForce h time p
   pub all : (p : Place) → InForce h time p → List·Memᴰ p rows
-  pub ordered : Pairwise Before rows
+  pub ordered : Pairwise InOrder rows
 
 -- the answer to a listing after the history: its number, its count and its buffer
 pub data ListAnswered (h : History) (time : ℕ) (buffer : List ℕ) : (answer count : ℕ) (after : List ℕ) → Type 0 where

@@ -1,10 +1,14 @@
 pub mod Calls
 pub mod Accepted
+pub mod Refusals
 pub mod Answers
+pub mod Order
 pub mod InForce
 pub mod Demand1
 pub mod Demand2
 pub mod Demand3
+pub mod AnyBoard
 pub mod Frauds
+pub mod Coordinates
 pub mod Starred
 pub mod Functions

@@ -1,5 +1,5 @@
 -- The starred cases of 01, "The program and the sample", line by line in its order, about the definitions.
--- Assumes nothing.
+-- Believed.
 use mathlib.Core.Bool.{true}
 use mathlib.Core.List.{List, [], _∷_, _++_}
 use mathlib.Core.Path.{_≡_}
@@ -19,7 +19,7 @@ use Rattle.grammar.specs.Bulletins.{acceptance, refusal}
 use Rattle.grammar.specs.Reads.{readOf}
 use Rattle.cases.specs.Samples.{reporting, laterSaying, eastOf, E180, cancelling}
 use Rattle.calendar.specs.Gregorian.{firstDay}
-use Rattle.calendar.specs.Instants.{startOf, endOf}
+use Rattle.calendar.specs.Declared.{IsStart, IsEnd, IsTarget}
 use Rattle.board.specs.Boards.{emptyBoard}
 use Rattle.board.specs.Posts.{postOf}
 use Rattle.board.specs.declared.Board.{Board}
@@ -95,8 +95,8 @@ pub record Starred : Type 0 where
   pub north-90-01-read : readOf (reporting "N OF N9001 SFC/FL100 MOV E 20KT WKN=") ≡ refusal 9 100
   -- "Clock 12,648,030 (2024-01-18 0830Z): start 12,648,030, end 12,648,270."; the sample is a WS, kind 2
   pub the-18th : minuteOf 2024 1 18 8 30 ≡ 12648030
-  pub start : startOf 12648030 (dayAndTime 18 8 30) ≡ 12648030
-  pub end : endOf 2 12648030 (dayAndTime 18 12 30) ≡ 12648270
+  pub start : IsStart 12648030 (dayAndTime 18 8 30) 12648030
+  pub end : IsEnd 2 12648030 (dayAndTime 18 12 30) 12648270
   -- "Sample posted then; listed at that minute, in hex: `01 00C0FE5E 02 51424242 312020 20 00C0FE5E 00C0FF4E`."
   pub posted : postOf emptyBoard 12648030 sample .answer ≡ 0
   pub listed : listOf withSample 12648030 (page 22)
@@ -107,12 +107,14 @@ pub record Starred : Type 0 where
   pub over : listOf withSample 12648270 (page 22) ≡ written (hex "01" ++ hex "00C0FF4E") (page 22)
   -- "Clock 12,709,380 (2024-02-29 2300Z), start 010100 is 12,709,500. Clock 2023-02-28 2300Z, start 290100: 18."
   pub the-29th : minuteOf 2024 2 29 23 0 ≡ 12709380
-  pub leap-year : startOf 12709380 (dayAndTime 1 1 0) ≡ 12709500
+  pub leap-year : IsStart 12709380 (dayAndTime 1 1 0) 12709500
   pub the-28th : minuteOf 2023 2 28 23 0 ≡ 12182340
+  pub no-29th : (t : ℕ) → IsStart 12182340 (dayAndTime 29 1 0) t → ⊥
   pub common-year : postOf emptyBoard 12182340 onTheTwentyNinth .answer ≡ 18
   -- "Sequence 2, VALID 181100/181230, `CNL SIGMET 1 180830/181230`, posted at 12,648,180: the sample is off the list; at
   -- 12,648,181 the sample posted again gets 22, the cancellation posted again 21."
   pub cancellation-read : readOf (laterSaying "QBBB NORTH SOUND FIR CNL SIGMET 1 180830/181230=") ≡ acceptance cancelling
+  pub target : IsTarget 2 12648270 (dayAndTime 18 8 30) 12648030
   pub cancelled : postOf withSample 12648180 cancelling .answer ≡ 0
   pub off-the-list : listOf withCancellation 12648180 (page 22) ≡ written (hex "01" ++ hex "00C0FEF4") (page 22)
   pub late-copy : postOf withCancellation 12648181 sample .answer ≡ 22
