@@ -1,5 +1,4 @@
 -- The tests of a board and the call's own refusals, in the shapes that the code's returns ask for.
--- Assumes nothing.
 use mathlib.Core.Bool.{Bool, true, false, not}
 use mathlib.Core.List.{List}
 use mathlib.Core.Path.{_≡_, sym, _∙_}

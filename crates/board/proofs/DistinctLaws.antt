@@ -1,5 +1,4 @@
 -- No identity is held twice: what that says of two places, and that it stays so where a place is set.
--- Assumes nothing.
 use mathlib.Core.Bool.{true, false, not}
 use mathlib.Core.List.{List, [], _∷_}
 use mathlib.Core.Path.{_≡_, ap}

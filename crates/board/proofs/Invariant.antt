@@ -1,5 +1,4 @@
 -- The invariant: the empty board is good, and every post leaves a good board good.
--- Assumes nothing.
 use mathlib.Core.Bool.{true, false}
 use mathlib.Core.List.{List, [], _∷_, map}
 use mathlib.Core.Path.{_≡_, refl, ap, _∙_}

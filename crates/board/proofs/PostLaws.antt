@@ -1,5 +1,4 @@
 -- What a post does to the board: nothing where it is refused; else it sets the clock, and each other place stays or is dropped where it stands.
--- Assumes nothing.
 use mathlib.Core.Bool.{true, false, not}
 use mathlib.Core.List.{List, [], _∷_}
 use mathlib.Core.Path.{_≡_, refl, sym, ap, _∙_}

@@ -1,5 +1,4 @@
 -- What it says that a call is refused for the board or the clock, and that it is not.
--- Assumes nothing.
 use mathlib.Core.Bool.{true, false}
 use mathlib.Core.Path.{_≡_}
 use Prim.Native.Nat.{ℕ, _≤_}

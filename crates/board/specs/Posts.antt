@@ -1,7 +1,7 @@
 -- 01, "An accepted post sets the board's clock and first drops places whose end is at or before it. A report takes a place, or replaces the
 -- one of its identity when its correction is later (none, then A to X). A cancellation marks its target's place, or takes a marked place
 -- where none is held; …. Dropped places become empty where they stand, and a new place is the lowest empty one."
--- Tied: `answer-cause`, `cause-answer` (crates/promises/proofs/Answering.antt).
+-- Tied: `any-board` (crates/promises/proofs/BoardAnswers.antt).
 use mathlib.Core.Bool.{Bool, not}
 use mathlib.Core.List.{List, map}
 use mathlib.Core.Path.{_≡_}

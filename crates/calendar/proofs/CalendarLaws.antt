@@ -1,5 +1,4 @@
 -- What a start, an end and a target's start are found to be is what the paper says they are.
--- Assumes nothing.
 use mathlib.Core.Bool.{Bool, true, false}
 use mathlib.Core.Path.{_≡_, refl, sym, ap, subst, _∙_}
 use Prim.Native.Nat.{ℕ, _+_, _-_, _*_, _/_, _%_, _≤_, _<_}
@@ -9,8 +8,8 @@ use borrow.Author.Tests.{leb-true, leb-false, ltb-true, ltb-false, eqb-true, eqb
 use Rattle.lists.specs.Choice.{both}
 use Rattle.lists.proofs.Choice.{by, clash, both-left, both-right, both-true, both-four, pick-true, pick-false}
 use Rattle.groups.specs.declared.Group.{Group}
-use Rattle.calendar.specs.Gregorian.{monthLength, firstDay, dayFrom, dayOfMonth, never, Falls}
-use Rattle.calendar.specs.Instants.{matches, minuteOn, onDay, orElse, instantIn, startOf, endOf, targetOf}
+use Rattle.calendar.specs.Gregorian.{monthLength, firstDay, never, Falls}
+use Rattle.calendar.specs.Instants.{dayFrom, dayOfMonth, matches, minuteOn, onDay, orElse, instantIn, startOf, endOf, targetOf}
 use Rattle.calendar.specs.Declared.{limitOf, Has, IsStart, IsEnd, IsTarget}
 use Rattle.calendar.proofs.MonthLaws.{first-gap, day-of-month}
 use Rattle.calendar.proofs.CenturyLaws.{falls-some}
@@ -213,11 +212,6 @@ start-only r s = sym (start-complete r) ∙ start-complete s
 pub start-none : (clock : ℕ) (g : Group) → startOf clock g ≡ never → (t : ℕ) → IsStart clock g t → ⊥
 start-none clock g e t s = absent e (start-complete s) (s .has)
 
-pub never-start : (clock : ℕ) (g : Group) → ((t : ℕ) → IsStart clock g t → ⊥) → startOf clock g ≡ never
-never-start clock g n =
-    by (eqb (startOf clock g) never) (λ t. eqb-true (startOf clock g) never t)
-    (λ f. let late = eqb-false (startOf clock g) never f in absurd (n (startOf clock g) (start-found clock g (omega (arith, late, start-bound clock g)))))
-
 -- An end.
 
 module _ (kind start : ℕ) (g : Group) where
@@ -265,11 +259,6 @@ end-only r s = sym (end-complete r) ∙ end-complete s
 pub end-none : (kind start : ℕ) (g : Group) → endOf kind start g ≡ never → (t : ℕ) → IsEnd kind start g t → ⊥
 end-none kind start g e t s = absent e (end-complete s) (s .has)
 
-pub never-end : (kind start : ℕ) (g : Group) → ((t : ℕ) → IsEnd kind start g t → ⊥) → endOf kind start g ≡ never
-never-end kind start g n =
-    by (eqb (endOf kind start g) never) (λ t. eqb-true (endOf kind start g) never t)
-    (λ f. let late = eqb-false (endOf kind start g) never f in absurd (n (endOf kind start g) (end-found kind start g (omega (arith, late, end-bound kind start g)))))
-
 -- The start of a cancellation's target.
 
 module _ (kind end : ℕ) (g : Group) where
@@ -316,11 +305,6 @@ target-only r s = sym (target-complete r) ∙ target-complete s
 
 pub target-none : (kind end : ℕ) (g : Group) → targetOf kind end g ≡ never → (t : ℕ) → IsTarget kind end g t → ⊥
 target-none kind end g e t s = absent e (target-complete s) (s .has)
-
-pub never-target : (kind end : ℕ) (g : Group) → ((t : ℕ) → IsTarget kind end g t → ⊥) → targetOf kind end g ≡ never
-never-target kind end g n =
-    by (eqb (targetOf kind end g) never) (λ t. eqb-true (targetOf kind end g) never t)
-    (λ f. let late = eqb-false (targetOf kind end g) never f in absurd (n (targetOf kind end g) (target-found kind end g (omega (arith, late, target-bound kind end g)))))
 
 -- Cases, by evaluation.
 

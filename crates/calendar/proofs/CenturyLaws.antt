@@ -1,5 +1,4 @@
 -- The hundred years: their 1,200 months end with day 36,524, and each day up to it falls in one of them.
--- Assumes nothing.
 use mathlib.Core.Bool.{true, false}
 use mathlib.Core.Path.{_≡_, refl}
 use Prim.Native.Nat.{ℕ, zero, suc, _≤_, _<_}

@@ -1,5 +1,4 @@
 -- One day: the ways in which it has no instant of the stretch with the group, and the one in which it has.
--- Assumes nothing.
 use mathlib.Core.Path.{_≡_, sym, ap, _∙_}
 use Prim.Native.Nat.{ℕ, _+_, _-_, _/_, _%_, _≤_, _<_}
 use native.Mathlib.Nat.{add-zero}

@@ -1,5 +1,4 @@
 -- The months of the Gregorian rule: how long they are, where they begin, and that a day falls in no more than one.
--- Assumes nothing.
 use mathlib.Core.Bool.{Bool, true, false}
 use mathlib.Core.Path.{_≡_, refl, ap, _∙_}
 use Prim.Native.Nat.{ℕ, zero, suc, _+_, _-_, _/_, _%_, _≤_, _<_}
@@ -11,7 +10,8 @@ use Rattle.lists.specs.Choice.{pick, both}
 use Rattle.lists.specs.Lists.{allOf}
 use Rattle.lists.proofs.Choice.{by, both-left, pick-true, pick-false}
 use Rattle.lists.proofs.Lists.{all-at}
-use Rattle.calendar.specs.Gregorian.{lengths, leap, monthLength, firstDay, months, Falls, dayFrom, dayOfMonth}
+use Rattle.calendar.specs.Gregorian.{lengths, leap, monthLength, firstDay, months, Falls}
+use Rattle.calendar.specs.Instants.{dayFrom, dayOfMonth}
 
 -- How long a month is.
 

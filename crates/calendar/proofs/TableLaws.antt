@@ -1,5 +1,4 @@
 -- The table of the months: a test down the whole of it that antt computes once, and the rule that follows at each of its months.
--- Assumes nothing.
 use mathlib.Core.Bool.{Bool, true}
 use mathlib.Core.List.{List, [], _∷_}
 use mathlib.Core.Path.{_≡_, refl, sym, ap, _∙_}

@@ -3,8 +3,8 @@
 -- Believed.
 use mathlib.Core.Bool.{Bool, not}
 use mathlib.Core.List.{List, [], _∷_}
-use Prim.Native.Nat.{ℕ, zero, suc, _+_, _-_, _/_, _%_, _≤_, _<_}
-use lib.Dec.{ltb, eqb}
+use Prim.Native.Nat.{ℕ, zero, suc, _+_, _/_, _%_, _≤_, _<_}
+use lib.Dec.{eqb}
 use lib.ListN.{getD}
 use Rattle.lists.specs.Choice.{pick, both, either}
 
@@ -42,12 +42,3 @@ pub record Falls (day month : ℕ) : Type 0 where
   pub within : month < months
   pub from : firstDay month ≤ day
   pub until : day < firstDay (suc month)
-
--- what day of its month a day is, months being passed one by one from month m on: 1 for the first
-unfoldable pub dayFrom : ℕ → ℕ → ℕ → ℕ
-dayFrom zero m day = 0
-dayFrom (suc k) m day = pick (ltb day (monthLength m)) (day + 1) (dayFrom k (suc m) (day - monthLength m))
-
--- what day of its month a day of the hundred years is
-unfoldable pub dayOfMonth : ℕ → ℕ
-dayOfMonth day = dayFrom months 0 day

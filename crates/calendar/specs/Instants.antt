@@ -3,12 +3,21 @@
 -- lies on one of three days. specs/Declared.antt says what each is; proofs/CalendarLaws.antt that the two agree.
 -- Tied: `start-found`, `start-complete`, `end-found`, `end-complete`, `target-found`, `target-complete` (crates/calendar/proofs/CalendarLaws.antt).
 use mathlib.Core.Bool.{Bool}
-use Prim.Native.Nat.{ℕ, _+_, _-_, _*_, _/_, _%_}
+use Prim.Native.Nat.{ℕ, zero, suc, _+_, _-_, _*_, _/_, _%_}
 use lib.Dec.{leb, ltb, eqb}
 use Rattle.lists.specs.Choice.{pick, both}
 use Rattle.groups.specs.declared.Group.{Group}
-use Rattle.calendar.specs.Gregorian.{dayOfMonth, never}
+use Rattle.calendar.specs.Gregorian.{monthLength, months, never}
 use Rattle.calendar.specs.Declared.{limitOf}
+
+-- what day of its month a day is, months being passed one by one from month m on: 1 for the first
+unfoldable pub dayFrom : ℕ → ℕ → ℕ → ℕ
+dayFrom zero m day = 0
+dayFrom (suc k) m day = pick (ltb day (monthLength m)) (day + 1) (dayFrom k (suc m) (day - monthLength m))
+
+-- what day of its month a day of the hundred years is
+unfoldable pub dayOfMonth : ℕ → ℕ
+dayOfMonth day = dayFrom months 0 day
 
 -- an instant "that has that day, hour and minute"
 unfoldable pub matches : Group → ℕ → Bool

@@ -1,6 +1,5 @@
 -- The published examples, evaluated on the definition: those inside the paper are read and written back as they stand, the others are
 -- refused. The places were counted in the texts.
--- Assumes nothing.
 use mathlib.Core.List.{List}
 use mathlib.Core.Path.{_≡_, refl}
 use Prim.Native.Nat.{ℕ}

@@ -1,5 +1,4 @@
 -- 01, the cases that speak of reading, evaluated on the definition.
--- Assumes nothing.
 use mathlib.Core.List.{List, []}
 use mathlib.Core.Path.{_≡_, refl}
 use Prim.Native.Char.{code}
@@ -254,11 +253,6 @@ observed-hour = refl
 pub observed-then : readOf (reporting "0900Z E OF E114 SFC/FL100 STNR NC=") ≡ refusal 9 95
 unfolding opened
 observed-then = refl
-
--- "N9001 is refused", at 100
-pub past-pole : readOf (reporting "N OF N9001 SFC/FL100 STNR NC=") ≡ refusal 9 100
-unfolding opened
-past-pole = refl
 
 -- "their longitudes differ by 0 or 21,600"
 pub meridian-read : readOf (reporting "WI N10 E180 - N11 E180 - N11 E179 - N10 W18000 SFC/FL100 MOV E 20KT WKN=") ≡ acceptance (located meridianOutline)

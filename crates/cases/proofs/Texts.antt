@@ -1,6 +1,5 @@
 -- The records of the cases, given field by field, are good, and the texts that they were read from are their canonical texts. And the writer, on
 -- the sample and on the empty record.
--- Assumes nothing.
 use mathlib.Core.Bool.{Bool, true}
 use mathlib.Core.List.{List, [], _∷_, _++_}
 use mathlib.Core.Path.{_≡_, refl}

@@ -1,5 +1,4 @@
 -- A coordinate's reader and its spelling undo one another, said once over the axis.
--- Assumes nothing.
 use mathlib.Core.Bool.{true}
 use mathlib.Core.List.{List, [], _∷_, _++_, append-nil}
 use mathlib.Core.Logic.{_⊎_, inl, inr}

@@ -1,5 +1,4 @@
 -- The paper's cases of coordinates, about the definitions.
--- Assumes nothing.
 use mathlib.Core.Bool.{true}
 use mathlib.Core.Logic.{inl, inr}
 use mathlib.Core.Path.{_≡_, refl, sym, _∙_}
@@ -10,16 +9,12 @@ use Rattle.lists.specs.Lists.{allOf}
 use Rattle.lists.specs.Base.{worthAfter}
 use Rattle.lists.specs.Text.{bytes}
 use Rattle.figures.specs.Figures.{figuresOf}
-use Rattle.coordinates.specs.Coordinates.{Axis, northSouth, eastWest, coordinateOf, goodCoordinate, noCoordinate, signedOf}
+use Rattle.coordinates.specs.Coordinates.{Axis, northSouth, eastWest, coordinateOf, goodCoordinate, noCoordinate, signedOf, Valued}
 use Rattle.coordinates.specs.Points.{samePoint}
 use Rattle.coordinates.specs.declared.Coordinate.{Coordinate}
 use Rattle.coordinates.proofs.Globe.{one-place-same}
 
--- the word is read, as a good coordinate of this signed value; and it is refused
-pub record Valued (a : Axis) (s : String) (z : ℤ) : Type 0 where
-  pub good : goodCoordinate a (coordinateOf a (bytes s)) ≡ true
-  pub value : signedOf (coordinateOf a (bytes s)) ≡ z
-
+-- the word is refused
 abbrev pub Refused : Axis → String → Type 0
 Refused a s = coordinateOf a (bytes s) ≡ noCoordinate
 

@@ -1,6 +1,5 @@
 -- 01, "Points are equal when their latitudes are equal and their longitudes differ by 0 or 21,600": of good points, when the signed
 -- latitudes are one and the signed longitudes are one, or the two ends. It is an equivalence of good points.
--- Assumes nothing.
 use mathlib.Core.Bool.{true}
 use mathlib.Core.Logic.{_⊎_, inl, inr, _↔_}
 use mathlib.Core.Path.{_≡_, refl, sym, ap, _∙_}

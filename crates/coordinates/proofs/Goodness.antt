@@ -1,5 +1,4 @@
 -- What a good coordinate is, as the paper's sentences; and that an empty one is all zero and never good.
--- Assumes nothing.
 use mathlib.Core.Bool.{true, false}
 use mathlib.Core.Logic.{_⊎_, inl, inr}
 use mathlib.Core.Path.{_≡_, refl}

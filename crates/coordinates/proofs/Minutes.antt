@@ -1,5 +1,4 @@
 -- The signed value in minutes: its size, and what the machine keeps of it in 32 bits.
--- Assumes nothing.
 use mathlib.Core.Bool.{Bool, true, false}
 use mathlib.Core.Path.{_≡_, refl, _∙_}
 use Prim.Native.Nat.{ℕ, zero, suc, _+_, _*_, _^_, _≤_, _<_}

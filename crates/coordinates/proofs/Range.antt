@@ -1,6 +1,5 @@
 -- 01, "Each coordinate also has a signed value in minutes, north and east positive: -5,400 to 5,400 and -10,800 to 10,800":
 -- a good coordinate's value lies there, and every such value is a good coordinate's.
--- Assumes nothing.
 use mathlib.Core.Bool.{true, false}
 use mathlib.Core.Logic.{_⊎_, inl, inr}
 use mathlib.Core.Path.{_≡_, refl, ap}

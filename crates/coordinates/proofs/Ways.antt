@@ -1,5 +1,4 @@
 -- The ways out of the reader of a coordinate: what each says of the definition, in the shape of what the code knows there.
--- Assumes nothing.
 use mathlib.Core.Bool.{Bool}
 use mathlib.Core.List.{List}
 use mathlib.Core.Logic.{_≢_}

@@ -1,15 +1,18 @@
 -- 01, "Latitude: N or S and two or four digits, at most 90 degrees. Longitude: E or W and three or five digits, at most 180 degrees."
 -- Both are one definition over an axis. The record keeps letter and digits as written; the signed minutes are a function of them.
 -- Believed.
-use mathlib.Core.Bool.{Bool}
+use mathlib.Core.Bool.{Bool, true}
 use mathlib.Core.List.{List, [], _∷_, _++_}
+use mathlib.Core.Path.{_≡_}
 use Prim.Native.Char.{code}
 use Prim.Native.Nat.{ℕ, _+_, _*_}
+use Prim.Native.String.{String}
 use lib.Dec.{leb, ltb, eqb}
 use lib.IntN.{ℤ, pos, negℤ}
 use lib.ListN.{length, getD}
 use Rattle.lists.specs.Choice.{pick, both, either}
 use Rattle.lists.specs.Lists.{part}
+use Rattle.lists.specs.Text.{bytes}
 use Rattle.figures.specs.Figures.{twoOf, threeOf, inFigures}
 use Rattle.figures.specs.Reads.{ifGood}
 use Rattle.coordinates.specs.declared.Coordinate.{Coordinate}
@@ -72,3 +75,8 @@ spellCoordinate a c =
 unfoldable pub signedOf : Coordinate → ℤ
 signedOf c =
     pick (either (eqb (c .letter) (code "S")) (eqb (c .letter) (code "W"))) (negℤ (pos (c .degrees * 60 + c .minutes))) (pos (c .degrees * 60 + c .minutes))
+
+-- the word is a coordinate, and has this signed value
+pub record Valued (a : Axis) (word : String) (minutes : ℤ) : Type 0 where
+  pub good : goodCoordinate a (coordinateOf a (bytes word)) ≡ true
+  pub value : signedOf (coordinateOf a (bytes word)) ≡ minutes

@@ -1,5 +1,4 @@
 -- Equal codes are equal words; so the code that a function compares tells whether the word is a fixed one.
--- Assumes nothing.
 use mathlib.Core.Bool.{true, false}
 use mathlib.Core.List.{List, [], _∷_}
 use mathlib.Core.Path.{_≡_, ap, sym, _∙_}

@@ -1,5 +1,4 @@
 -- Plain bytes, those that a word may have: allowed, no blank and no `=`. Figures and letters are; and a word of them is a run without blanks.
--- Assumes nothing.
 use mathlib.Core.Bool.{true, false, not}
 use mathlib.Core.List.{List, _∷_}
 use mathlib.Core.Path.{_≡_}

@@ -1,6 +1,5 @@
 -- A loop that reads a word as a number in base b, after the number v: what it keeps at place i, and what each way out of it
 -- says of the whole word. The places `ds` are the word's bytes, or what the bytes stand for.
--- Assumes nothing.
 use mathlib.Core.Bool.{Bool, true, false}
 use mathlib.Core.List.{List}
 use mathlib.Core.Path.{_≡_, refl, sym, _∙_}

@@ -1,5 +1,4 @@
 -- Readers of the form `pick test (ifGood good none value) none`: the word passes a test, and its value stands where it is good.
--- Assumes nothing.
 use mathlib.Core.Bool.{Bool, true, false}
 use mathlib.Core.List.{List}
 use mathlib.Core.Logic.{_⊎_, inl, inr}

@@ -1,5 +1,4 @@
 -- Tables of fixed words that a record keeps as a number: a code tells the number, and number and word undo one another.
--- Assumes nothing.
 use mathlib.Core.Bool.{Bool, true, false, not}
 use mathlib.Core.List.{List, [], _∷_, map}
 use mathlib.Core.Logic.{inl, inr}

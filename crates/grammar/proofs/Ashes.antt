@@ -1,5 +1,4 @@
 -- The phenomenon of a WV: a cloud of ash, and the eruption that it comes from.
--- Assumes nothing.
 use mathlib.Core.Bool.{true, false}
 use mathlib.Core.List.{List, [], _∷_, _++_, append-assoc}
 use mathlib.Core.Path.{_≡_, refl, ap, sym, _∙_}

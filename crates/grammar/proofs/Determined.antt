@@ -1,5 +1,4 @@
 -- The public contract of this crate determines its reply: two replies that it allows on the same number and place are equal.
--- Assumes nothing.
 use Rattle.lists.proofs.Choice.{determined}
 use Rattle.lists.specs.Determined.{Determines}
 use Rattle.grammar.proofs.refusal.Kinds as refusal-kinds

@@ -1,6 +1,5 @@
 -- The level and the ending, state by state: what is told is what was read, some words lead on, and the words of a good level and ending
 -- lead through.
--- Assumes nothing.
 use mathlib.Core.Bool.{Bool, true, false, not}
 use mathlib.Core.List.{List, [], _∷_, _++_}
 use mathlib.Core.Logic.{inl, inr}

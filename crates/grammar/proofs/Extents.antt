@@ -1,5 +1,4 @@
 -- The words of a good location: they lead through it, the first is no `AT`, and all are plain.
--- Assumes nothing.
 use mathlib.Core.Bool.{true, false}
 use mathlib.Core.List.{List, [], _∷_, _++_}
 use mathlib.Core.Path.{_≡_, refl, ap, _∙_}

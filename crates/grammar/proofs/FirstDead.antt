@@ -1,6 +1,5 @@
 -- Theorems c and d. The first dead word and its number: where a run is refused, the words before begin an accepted message and with this
 -- word they begin none; the number is that of the greatest part that may come next. And the converse.
--- Assumes nothing.
 use mathlib.Core.Bool.{true}
 use mathlib.Core.List.{List, [], _∷_, _++_, append-nil, map-append}
 use mathlib.Core.Logic.{_↔_}
@@ -14,7 +13,7 @@ use Rattle.message.specs.Records.{good}
 use Rattle.message.specs.declared.Record.{Record}
 use Rattle.grammar.specs.Judged.{messageWords, bytesOf, Whole, Begins, ComesNext, JudgedAs, Numbered, RefusedAt}
 use Rattle.grammar.specs.Numbers.{numberOf}
-use Rattle.grammar.specs.Parts.{Marked, marked}
+use Rattle.grammar.specs.Parts.{Marked, marked, messageParts}
 use Rattle.grammar.specs.Runs.{advance, walk, run}
 use Rattle.grammar.specs.Runs.Ran.{refused}
 use Rattle.grammar.specs.States.{State, Move}
@@ -25,16 +24,20 @@ use Rattle.grammar.proofs.Invariant.{Ok, mark}
 use Rattle.grammar.proofs.Marks.{unmarked, message-words, marksOf, markAt, marks-words, marks-append, start, start-kept, kept-ok, accepted-good, accepted-parts, accepted-words}
 use Rattle.grammar.proofs.Moves.{Fine, Next, walk-append}
 use Rattle.grammar.proofs.NumberLaws.{mark-most}
-use Rattle.grammar.proofs.PartLaws.{part-not-zero}
 use Rattle.grammar.proofs.RunLaws.{Alive, Breaks, moveNumber, walk-dead, dead-done, dead-not, done-not-goes, run-breaks, breaks-run}
 use Rattle.grammar.proofs.RunLaws.Alive.{going, over}
 
--- two lists parted at one length have the same element there
-same-there : {A : Type 0} (xs ys : List A) (x y : A) (us vs : List A) → length xs ≡ length ys → xs ++ (x ∷ us) ≡ ys ++ (y ∷ vs) → x ≡ y
-same-there [] [] x y us vs l e = cc
-same-there [] (z ∷ ys) x y us vs l e = absurd (omega arith)
-same-there (z ∷ xs) [] x y us vs l e = absurd (omega arith)
-same-there (z ∷ xs) (t ∷ ys) x y us vs l e = same-there xs ys x y us vs (omega arith) (let q : xs ++ (x ∷ us) ≡ ys ++ (y ∷ vs) = cc in q)
+-- two lists parted at one length have the same rest
+rest-same : {A : Type 0} (xs ys us vs : List A) → length xs ≡ length ys → xs ++ us ≡ ys ++ vs → us ≡ vs
+rest-same [] [] us vs l e = e
+rest-same [] (z ∷ ys) us vs l e = absurd (omega arith)
+rest-same (z ∷ xs) [] us vs l e = absurd (omega arith)
+rest-same (z ∷ xs) (t ∷ ys) us vs l e = rest-same xs ys us vs (omega arith) (let q : xs ++ us ≡ ys ++ vs = cc in q)
+
+-- the rest of a message: the walk goes on over its words to that record, and gives them their parts
+pub record Rest (m : Move) (message : Record) (left : List Marked) : Type 0 where
+  pub walked : walk m (unmarked left) ≡ done message
+  pub marks : left ≡ marksOf m (unmarked left)
 
 -- facts of the section laws: what each word owes, that every state is live, and that the words of a good record are accepted
 module _
@@ -43,7 +46,7 @@ module _
     (forth : (r : Record) → good r ≡ true → walk (start) (messageWords r) ≡ done r)
   where
     -- where a walk is in a state, that state is sound
-    reached : (ws : List (List ℕ)) (s : State) → walk start ws ≡ goes s → Ok s
+    pub reached : (ws : List (List ℕ)) (s : State) → walk start ws ≡ goes s → Ok s
     reached ws s e = kept-ok (rw e at (start-kept sound ws))
 
     -- Begins: the walk is alive.
@@ -86,22 +89,32 @@ module _
 
     -- The number.
 
+    -- what is left of an accepted message behind these words
+    pub rest-of : (ws : List (List ℕ)) (r : Record) → good r ≡ true → (seen left : List Marked) → seen ++ left ≡ messageParts r → unmarked seen ≡ ws → Rest (walk start ws) r left
+    rest-of ws r g seen left parts words =
+        let after : List (List ℕ) = unmarked left in
+        let split : ws ++ after ≡ messageWords r =
+        ap (λ (vs : List (List ℕ)). vs ++ after) (sym words) ∙ (sym (map-append (λ (m : Marked). m .word) seen left) ∙ (ap unmarked parts ∙ message-words r))
+        in
+        let walked : walk start (ws ++ after) ≡ done r = rw split (forth r g) in
+        let marks : seen ++ left ≡ marksOf start ws ++ marksOf (walk start ws) after = parts ∙ (sym (accepted-parts sound (ws ++ after) r walked) ∙ marks-append start ws after) in
+        let long : length seen ≡ length (marksOf start ws) =
+        sym (length-map seen (λ (m : Marked). m .word)) ∙ (ap length (words ∙ sym (marks-words start ws)) ∙ length-map (marksOf start ws) (λ (m : Marked). m .word))
+        in
+        record {
+          walked = sym (walk-append start ws after) ∙ walked;
+          marks = rest-same seen (marksOf start ws) left (marksOf (walk start ws) after) long marks;
+        }
+
+    comes-rest : (ws : List (List ℕ)) (n : ℕ) (c : ComesNext ws n) → Rest (walk start ws) (c .message) (marked n (c .word) ∷ c .rest)
+    comes-rest ws n c = rest-of ws (c .message) (c .isGood) (c .before) (marked n (c .word) ∷ c .rest) (c .parts) (c .words)
+
     -- what comes next after these words is a word that the state takes, with the part that the state gives it
-    comes-mark : (ws : List (List ℕ)) (n : ℕ) (c : ComesNext ws n) → marked n (c .word) ≡ markAt (walk (start) ws) (c .word)
+    comes-mark : (ws : List (List ℕ)) (n : ℕ) (c : ComesNext ws n) → marked n (c .word) ≡ markAt (walk start ws) (c .word)
     unfolding marksOf
     comes-mark ws n c =
-        let after : List (List ℕ) = unmarked (c .rest) in
-        let split : messageWords (c .message) ≡ ws ++ (c .word ∷ after) =
-        sym (message-words (c .message)) ∙ (ap unmarked (sym (c .parts)) ∙ (map-append (λ (m : Marked). m .word) (c .before) (marked n (c .word) ∷ c .rest) ∙ ap (λ (r : List (List ℕ)). r ++ (c .word ∷ after)) (c .words)))
-        in
-        let walked : walk (start) (ws ++ (c .word ∷ after)) ≡ done (c .message) = rw (← split) (forth (c .message) (c .isGood)) in
-        let marks : c .before ++ (marked n (c .word) ∷ c .rest) ≡ marksOf (start) ws ++ (markAt (walk (start) ws) (c .word) ∷ marksOf (advance (walk (start) ws) (c .word)) after) =
-        c .parts ∙ (sym (accepted-parts sound (ws ++ (c .word ∷ after)) (c .message) walked) ∙ marks-append (start) ws (c .word ∷ after))
-        in
-        let long : length (c .before) ≡ length (marksOf (start) ws) =
-        sym (length-map (c .before) (λ (m : Marked). m .word)) ∙ (ap length (c .words ∙ sym (marks-words (start) ws)) ∙ length-map (marksOf (start) ws) (λ (m : Marked). m .word))
-        in
-        same-there (c .before) (marksOf (start) ws) (marked n (c .word)) (markAt (walk (start) ws) (c .word)) (c .rest) (marksOf (advance (walk (start) ws) (c .word)) after) long marks
+        let same : marked n (c .word) ∷ c .rest ≡ markAt (walk start ws) (c .word) ∷ marksOf (advance (walk start ws) (c .word)) (unmarked (c .rest)) = comes-rest ws n c .marks in
+        cc
 
     comes-some : (ws : List (List ℕ)) (s : State) → walk start ws ≡ goes s → ComesNext ws (numberOf s)
     unfolding marksOf
@@ -153,11 +166,11 @@ module _
     whole-done ws c = ap (walk start) (c .words) ∙ forth (c .message) (c .isGood)
 
     -- the words after which a word comes are in a state
-    comes-going : (ws : List (List ℕ)) (n : ℕ) → ComesNext ws n → (r : Record) → walk start ws ≡ done r → ⊥
+    pub comes-going : (ws : List (List ℕ)) (n : ℕ) → ComesNext ws n → (r : Record) → walk start ws ≡ done r → ⊥
+    unfolding walk
     comes-going ws n c r e =
-        let none : marked n (c .word) ≡ marked 0 (c .word) = comes-mark ws n c ∙ rw e in
-        let zero-part : n ≡ 0 = ap (λ (m : Marked). m .number) none in
-        part-not-zero (c .message) (c .before) (c .word) (c .rest) (rw zero-part at (c .parts))
+        let on : walk (walk start ws) (c .word ∷ unmarked (c .rest)) ≡ done (c .message) = comes-rest ws n c .walked in
+        dead-done (c .message) (sym (rw e at on) ∙ walk-dead (unmarked (c .rest)))
 
     pub numbers-one : (ws : List (List ℕ)) (n : ℕ) (m : Move) → walk start ws ≡ m → Alive m → Numbered ws n → n ≡ moveNumber m
     numbers-one ws n (goes s) e a (inl j) =

@@ -1,6 +1,5 @@
 -- A test, a cancellation, and the word that tells them from a report: what each word owes there, how the machine goes on from there, and
 -- that it reads what is written.
--- Assumes nothing.
 use mathlib.Core.Bool.{true, false, not}
 use mathlib.Core.List.{List, [], _∷_, _++_}
 use mathlib.Core.Path.{_≡_, refl, ap, sym, _∙_}

@@ -1,5 +1,4 @@
 -- The words of every good record are accepted as that record: the sections' laws put together.
--- Assumes nothing.
 use mathlib.Core.Bool.{true, false}
 use mathlib.Core.List.{List, [], _∷_, _++_, append-assoc}
 use mathlib.Core.Path.{_≡_, refl, ap, _∙_}

@@ -1,5 +1,4 @@
 -- What holds in every state that is reached: all that was read is good. And which part a word belongs to that a state takes.
--- Assumes nothing.
 use mathlib.Core.Bool.{Bool, true, false, not}
 use mathlib.Core.List.{List, [], _∷_}
 use mathlib.Core.Path.{_≡_}

@@ -1,5 +1,4 @@
 -- Every good record's text has at most 2,048 bytes: by the size of its words, each counted with a space, part by part.
--- Assumes nothing.
 use mathlib.Core.Bool.{Bool, true, false}
 use mathlib.Core.List.{List, [], _∷_, _++_}
 use mathlib.Core.Path.{_≡_, refl}

@@ -22,6 +22,7 @@ pub mod RunLaws
 pub mod PartLaws
 pub mod FirstDead
 pub mod Twelve
+pub mod Required
 pub mod Replies
 pub mod TextLaws
 pub mod Lengths

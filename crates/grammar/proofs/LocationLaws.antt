@@ -1,5 +1,4 @@
 -- One word of a location, wherever the location stands: what was read stays good, and the words of the location grow by this one.
--- Assumes nothing.
 use mathlib.Core.Bool.{Bool, true, false, not}
 use mathlib.Core.List.{List, [], _∷_, _++_, append-assoc}
 use mathlib.Core.Path.{_≡_, refl, ap, sym, _∙_}

@@ -1,5 +1,4 @@
 -- The words of a walk with the parts that they belong to, and that a walk which ends was told the words of its record.
--- Assumes nothing.
 use mathlib.Core.Bool.{true}
 use mathlib.Core.List.{List, [], _∷_, _++_, map, append-nil, map-append}
 use mathlib.Core.Path.{_≡_, refl, ap, sym, _∙_}

@@ -1,5 +1,4 @@
 -- What each word owes in each state, and the laws by which a section's states are shown to pay it.
--- Assumes nothing.
 use mathlib.Core.Bool.{Bool, true, false}
 use mathlib.Core.List.{List, [], _∷_, _++_}
 use mathlib.Core.Path.{_≡_, refl, ap, sym, _∙_}

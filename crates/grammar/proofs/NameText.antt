@@ -1,6 +1,5 @@
 -- Names, as an area and a mountain have them: the text of a name grows word by word, its record is good, and a good name is the record of
 -- its own text.
--- Assumes nothing.
 use mathlib.Core.Bool.{Bool, true, false, not}
 use mathlib.Core.List.{List, [], _∷_, _++_, append-assoc}
 use mathlib.Core.Path.{_≡_, refl, ap, sym, _∙_}

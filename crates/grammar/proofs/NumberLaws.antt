@@ -1,7 +1,8 @@
--- The numbers of the states: 4 to 12, and never less than the part of a word that the state takes. And no state goes on past the `=`.
--- Assumes nothing.
-use mathlib.Core.Bool.{Bool, true, false, not}
+-- The numbers of the states: 4 to 12. A word that a state takes belongs to the part of that number, or is something optional of an earlier
+-- one. And no state goes on past the `=`.
+use mathlib.Core.Bool.{true, false, not}
 use mathlib.Core.List.{List, []}
+use mathlib.Core.Logic.{_⊎_, inl, inr, ⊎-elim}
 use mathlib.Core.Path.{_≡_, refl}
 use Prim.Native.Nat.{ℕ, _-_, _≤_, _<_}
 use native.Mathlib.Omega.{arith}
@@ -9,7 +10,6 @@ use lib.Dec.{eqb, lit<}
 use lib.ListN.{length, getD}
 use borrow.Author.Tests.{not-true}
 use Rattle.lists.specs.Base.{worthAfter, places}
-use Rattle.lists.specs.Choice.{pick}
 use Rattle.lists.specs.Lists.{indexOf, allOf, same}
 use Rattle.lists.proofs.Choice.{by}
 use Rattle.lists.proofs.Lists.{all-at}
@@ -17,6 +17,7 @@ use Rattle.words.specs.Bytes.{between}
 use Rattle.words.proofs.Ranges.{between-low, between-high}
 use Rattle.message.specs.Limits.{ws, cta}
 use Rattle.message.specs.Words.{testTexts}
+use Rattle.message.specs.declared.Side.{Side}
 use Rattle.figures.specs.Figures.{figuresOf}
 use Rattle.figures.specs.Letters.{lettersOf, goodLetters}
 use Rattle.coordinates.specs.Coordinates.{coordinateOf, goodCoordinate}
@@ -30,7 +31,7 @@ use Rattle.motions.specs.Speeds.{unitWords, speedOf, goodSpeed}
 use Rattle.grammar.specs.Numbers.{numberOf}
 use Rattle.grammar.specs.Placing.{is, locating, placeStep}
 use Rattle.grammar.specs.Records.{areaOf}
-use Rattle.grammar.specs.States.{State, Move}
+use Rattle.grammar.specs.States.{ToArea, ToPhenomenon, Site, State, Move}
 use Rattle.grammar.specs.States.Move.{goes, done, dead}
 use Rattle.grammar.specs.States.Site.{inReport, inForecast}
 use Rattle.grammar.specs.States.Placing.{atLocation, atLatitudeOf, atLatitudeBound, atAnd, atSecondBound, atLongitudeOf, atLongitudeBound, atEntire, atLatitude, atLongitude, atDash}
@@ -114,82 +115,84 @@ number-range (atForecastAt l i) = record { low = lit< tt; high = lit< tt }
 number-range (atForecastTime l i) = record { low = lit< tt; high = lit< tt }
 number-range (atEnd r) = record { low = lit< tt; high = lit< tt }
 
--- one of two numbers, the greater the second
-one-of : (t : Bool) (a b : ℕ) → a ≤ b → pick t a b ≤ b
-one-of true a b h = h
-one-of false a b h = omega arith
+-- "something optional": a state takes it although the part that it requires comes later
+pub data Optional : State → List ℕ → Type 0 where
+  longer-test : {o : ToArea} {w : List ℕ} → is "SIGMET" w ≡ true → Optional (atTest o) w
+  freezing-rain : {o : ToArea} {w : List ℕ} → is "(FZRA)" w ≡ true → Optional (atIce o) w
+  timed : {p : ToPhenomenon} {n : ℕ} {w : List ℕ} → is "AT" w ≡ true → Optional (atObserved p n) w
+  second-bound : {site : Site} {latitude : Side} {w : List ℕ} → is "AND" w ≡ true → Optional (atPlace site (atAnd latitude)) w
+
+-- a word belongs to the part that the state requires, or it is optional
+pub part-taken : (s : State) (w : List ℕ) → (mark s w ≡ numberOf s) ⊎ Optional s w
+part-taken atDesignator w = inl refl
+part-taken (atCentre d) w = inl refl
+part-taken (atSent d c) w = inl refl
+part-taken (atCorrection d c g) w = inl refl
+part-taken (atUnit h) w = inl refl
+part-taken (atSigmet h u) w = inl refl
+part-taken (atSequence h u) w = inl refl
+part-taken (atValid h u s) w = inl refl
+part-taken (atPeriod h u s) w = inl refl
+part-taken (atOffice h u s p) w = inl refl
+part-taken (atIndicator h l) w = inl refl
+part-taken (atName h l i) w = inl refl
+part-taken (atMoreName h l i t) w = inl refl
+part-taken (atForm o) w = inl refl
+part-taken (atTest o) w = by (is "SIGMET" w) (λ e. inr (longer-test e)) (λ e. inl (rw e))
+part-taken (atTestText o n read) w = inl refl
+part-taken (atCancelSigmet o) w = inl refl
+part-taken (atCancelSequence o) w = inl refl
+part-taken (atCancelPeriod o s) w = inl refl
+part-taken (atStorm o n) w = inl refl
+part-taken (atSevere o) w = inl refl
+part-taken (atIce o) w = by (is "(FZRA)" w) (λ e. inr (freezing-rain e)) (λ e. inl (rw e))
+part-taken (atHeavy o) w = inl refl
+part-taken (atRadioactive o) w = inl refl
+part-taken (atAsh o) w = inl refl
+part-taken (atEruption o) w = inl refl
+part-taken (atMountain o) w = inl refl
+part-taken (atMoreMountain o t) w = inl refl
+part-taken (atPosition o n) w = inl refl
+part-taken (atPositionLongitude o n c) w = inl refl
+part-taken (atVolcanoAsh o v) w = inl refl
+part-taken (atVolcanoCloud o v) w = inl refl
+part-taken (atObservation p) w = inl refl
+part-taken (atObserved p n) w = by (is "AT" w) (λ e. inr (timed e)) (λ e. inl (rw e))
+part-taken (atObservedTime p n) w = inl refl
+part-taken (atPlace site atLocation) w = inl refl
+part-taken (atPlace site (atLatitudeOf side)) w = inl refl
+part-taken (atPlace site (atLatitudeBound side)) w = inl refl
+part-taken (atPlace site (atAnd latitude)) w = by (is "AND" w) (λ e. inr (second-bound e)) (λ e. inl (rw e))
+part-taken (atPlace site (atSecondBound latitude)) w = inl refl
+part-taken (atPlace site (atLongitudeOf latitude side)) w = inl refl
+part-taken (atPlace site (atLongitudeBound latitude side)) w = inl refl
+part-taken (atPlace site atEntire) w = inl refl
+part-taken (atPlace site (atLatitude ps)) w = inl refl
+part-taken (atPlace site (atLongitude ps latitude)) w = inl refl
+part-taken (atPlace site (atDash ps)) w = inl refl
+part-taken (atLevel q) w = inl refl
+part-taken (atTop q) w = inl refl
+part-taken (atAbove q) w = inl refl
+part-taken (atTopAbove q) w = inl refl
+part-taken (atEnding l) w = inl refl
+part-taken (atCompass l) w = inl refl
+part-taken (atSpeed l d) w = inl refl
+part-taken (atMovingIntensity l d v) w = inl refl
+part-taken (atStationary l) w = inl refl
+part-taken (atForecast l i) w = inl refl
+part-taken (atForecastAt l i) w = inl refl
+part-taken (atForecastTime l i) w = inl refl
+part-taken (atEnd r) w = inl refl
+
+optional-less : (s : State) (w : List ℕ) → Optional s w → mark s w ≤ numberOf s
+optional-less (atTest o) w (longer-test e) = rw e (lit< tt)
+optional-less (atIce o) w (freezing-rain e) = rw e (lit< tt)
+optional-less (atObserved p n) w (timed e) = rw e (lit< tt)
+optional-less (atPlace (inReport o) (atAnd latitude)) w (second-bound e) = rw e (lit< tt)
+optional-less (atPlace (inForecast l i) (atAnd latitude)) w (second-bound e) = rw e (lit< tt)
 
 pub mark-most : (s : State) (w : List ℕ) → mark s w ≤ numberOf s
-mark-most atDesignator w = lit< tt
-mark-most (atCentre d) w = lit< tt
-mark-most (atSent d c) w = lit< tt
-mark-most (atCorrection d c g) w = lit< tt
-mark-most (atUnit h) w = lit< tt
-mark-most (atSigmet h u) w = lit< tt
-mark-most (atSequence h u) w = lit< tt
-mark-most (atValid h u s) w = lit< tt
-mark-most (atPeriod h u s) w = lit< tt
-mark-most (atOffice h u s p) w = lit< tt
-mark-most (atIndicator h l) w = lit< tt
-mark-most (atName h l i) w = lit< tt
-mark-most (atMoreName h l i t) w = lit< tt
-mark-most (atForm o) w = lit< tt
-mark-most (atTest o) w = one-of (is "SIGMET" w) 7 12 (lit< tt)
-mark-most (atTestText o n read) w = lit< tt
-mark-most (atCancelSigmet o) w = lit< tt
-mark-most (atCancelSequence o) w = lit< tt
-mark-most (atCancelPeriod o s) w = lit< tt
-mark-most (atStorm o n) w = lit< tt
-mark-most (atSevere o) w = lit< tt
-mark-most (atIce o) w = one-of (is "(FZRA)" w) 7 8 (lit< tt)
-mark-most (atHeavy o) w = lit< tt
-mark-most (atRadioactive o) w = lit< tt
-mark-most (atAsh o) w = lit< tt
-mark-most (atEruption o) w = lit< tt
-mark-most (atMountain o) w = lit< tt
-mark-most (atMoreMountain o t) w = lit< tt
-mark-most (atPosition o n) w = lit< tt
-mark-most (atPositionLongitude o n c) w = lit< tt
-mark-most (atVolcanoAsh o v) w = lit< tt
-mark-most (atVolcanoCloud o v) w = lit< tt
-mark-most (atObservation p) w = lit< tt
-mark-most (atObserved p n) w = one-of (is "AT" w) 8 9 (lit< tt)
-mark-most (atObservedTime p n) w = lit< tt
-mark-most (atPlace (inReport o) atLocation) w = lit< tt
-mark-most (atPlace (inReport o) (atLatitudeOf side)) w = lit< tt
-mark-most (atPlace (inReport o) (atLatitudeBound side)) w = lit< tt
-mark-most (atPlace (inReport o) (atAnd latitude)) w = one-of (is "AND" w) 9 10 (lit< tt)
-mark-most (atPlace (inReport o) (atSecondBound latitude)) w = lit< tt
-mark-most (atPlace (inReport o) (atLongitudeOf latitude side)) w = lit< tt
-mark-most (atPlace (inReport o) (atLongitudeBound latitude side)) w = lit< tt
-mark-most (atPlace (inReport o) atEntire) w = lit< tt
-mark-most (atPlace (inReport o) (atLatitude ps)) w = lit< tt
-mark-most (atPlace (inReport o) (atLongitude ps latitude)) w = lit< tt
-mark-most (atPlace (inReport o) (atDash ps)) w = lit< tt
-mark-most (atPlace (inForecast l i) atLocation) w = lit< tt
-mark-most (atPlace (inForecast l i) (atLatitudeOf side)) w = lit< tt
-mark-most (atPlace (inForecast l i) (atLatitudeBound side)) w = lit< tt
-mark-most (atPlace (inForecast l i) (atAnd latitude)) w = one-of (is "AND" w) 11 12 (lit< tt)
-mark-most (atPlace (inForecast l i) (atSecondBound latitude)) w = lit< tt
-mark-most (atPlace (inForecast l i) (atLongitudeOf latitude side)) w = lit< tt
-mark-most (atPlace (inForecast l i) (atLongitudeBound latitude side)) w = lit< tt
-mark-most (atPlace (inForecast l i) atEntire) w = lit< tt
-mark-most (atPlace (inForecast l i) (atLatitude ps)) w = lit< tt
-mark-most (atPlace (inForecast l i) (atLongitude ps latitude)) w = lit< tt
-mark-most (atPlace (inForecast l i) (atDash ps)) w = lit< tt
-mark-most (atLevel q) w = lit< tt
-mark-most (atTop q) w = lit< tt
-mark-most (atAbove q) w = lit< tt
-mark-most (atTopAbove q) w = lit< tt
-mark-most (atEnding l) w = lit< tt
-mark-most (atCompass l) w = lit< tt
-mark-most (atSpeed l d) w = lit< tt
-mark-most (atMovingIntensity l d v) w = lit< tt
-mark-most (atStationary l) w = lit< tt
-mark-most (atForecast l i) w = lit< tt
-mark-most (atForecastAt l i) w = lit< tt
-mark-most (atForecastTime l i) w = lit< tt
-mark-most (atEnd r) w = lit< tt
+mark-most s w = ⊎-elim (λ (e : mark s w ≡ numberOf s). omega arith) (optional-less s w) (part-taken s w)
 
 -- the `=` ends a message or is refused
 abbrev pub Stops : Move → Type 0

@@ -1,5 +1,4 @@
 -- An observation: what each word owes there, how the machine goes on from there, and that it reads what is written.
--- Assumes nothing.
 use mathlib.Core.Bool.{Bool, true, false}
 use mathlib.Core.List.{List, [], _∷_, _++_}
 use mathlib.Core.Path.{_≡_, refl, ap, _∙_}

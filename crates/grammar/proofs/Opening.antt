@@ -1,6 +1,5 @@
 -- The heading and the first line, state by state: what is told is what was read, some words lead on, and the words of a good heading and
 -- first line lead through.
--- Assumes nothing.
 use mathlib.Core.Bool.{Bool, true, false}
 use mathlib.Core.List.{List, [], _∷_, _++_}
 use mathlib.Core.Path.{_≡_, refl, _∙_}

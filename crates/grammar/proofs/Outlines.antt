@@ -1,5 +1,4 @@
 -- The points of an outline, word by word: which words go on, which one closes it, and that an open outline can always be closed.
--- Assumes nothing.
 use mathlib.Core.Bool.{Bool, true, false, not}
 use mathlib.Core.List.{List, [], _∷_, _++_, append-nil, append-assoc}
 use mathlib.Core.Path.{_≡_, refl, ap, sym, _∙_}

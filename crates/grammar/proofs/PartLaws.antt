@@ -1,10 +1,12 @@
--- The parts of a message: each word has a number from 4 to 11, and the `=` alone has 12.
--- Assumes nothing.
+-- The parts of a message: each word has a number from 4 to 11, and the `=` alone has 12; they come in the order of their numbers.
 use mathlib.Core.Bool.{Bool, true, false}
-use mathlib.Core.List.{List, [], _∷_, _++_}
-use mathlib.Core.Path.{_≡_, refl, ap, _∙_}
-use Prim.Native.Nat.{ℕ}
+use mathlib.Core.List.{List, [], _∷_, _++_, List·Memᴰ, List·Memᴰ·head, List·Memᴰ·tail}
+use mathlib.Core.Path.{_≡_, refl, _∙_}
+use Prim.Native.Nat.{ℕ, _≤_}
+use native.Mathlib.Nat.{le-refl, le-trans}
 use native.Mathlib.Omega.{arith}
+use lib.Dec.{lit≤}
+use lib.ListN.{take, drop}
 use Rattle.lists.specs.Lists.{allOf}
 use Rattle.lists.proofs.Choice.{clash, both-left, both-right, both-true}
 use Rattle.lists.proofs.Lists.{all-append}
@@ -17,7 +19,7 @@ use Rattle.message.specs.Words.{correctionWords, formWords, timeOfDay}
 use Rattle.message.specs.declared.Form.{Form}
 use Rattle.message.specs.declared.Form.the-variants.{NoForm, Test, Cancellation, Reported}
 use Rattle.message.specs.declared.Record.{Record}
-use Rattle.grammar.specs.Parts.{Marked, marked, inPart, formParts, partsOf, messageParts}
+use Rattle.grammar.specs.Parts.{Marked, inPart, formParts, partsOf, messageParts}
 
 -- the part of a word that is not the `=`
 abbrev pub ofWord : Marked → Bool
@@ -64,9 +66,57 @@ other-last x f (w ∷ xs) rest (y ∷ ys) z a e =
     let later : (xs ≡ ys) × (x ≡ z) = other-last x f xs rest ys z (both-right (ofWord y) (allOf ofWord ys) a) tail in
     (rw (head, later .0), later .1)
 
--- no word of a message has the number 0
-pub part-not-zero : (r : Record) (before : List Marked) (w : List ℕ) (rest : List Marked) → before ++ (marked 0 w ∷ rest) ≡ messageParts r → ⊥
-part-not-zero r before w rest e =
-    let last : (before ≡ partsOf r) × (marked 0 w ≡ marked 12 []) = other-last (marked 0 w) refl before rest (partsOf r) (marked 12 []) (words-parts r) e in
-    let k : _≡_ {A = ℕ} 0 12 = ap (λ (m : Marked). m .number) (last .1) in
-    omega arith
+-- The order of the parts: the numbers are from low to high, none less than one before it.
+
+data Rises : ℕ → List Marked → ℕ → Type 0 where
+  level : {low high : ℕ} → low ≤ high → Rises low [] high
+  rising : {low high : ℕ} {m : Marked} {ms : List Marked} → low ≤ m .number → Rises (m .number) ms high → Rises low (m ∷ ms) high
+
+rises-from : {low from high : ℕ} (ms : List Marked) → low ≤ from → Rises from ms high → Rises low ms high
+rises-from [] h (level k) = level (le-trans h k)
+rises-from (m ∷ ms) h (rising k r) = rising (le-trans h k) r
+
+then : {low between high : ℕ} (xs ys : List Marked) → Rises low xs between → Rises between ys high → Rises low (xs ++ ys) high
+then [] ys (level h) s = rises-from ys h s
+then (x ∷ xs) ys (rising h r) s = rising h (then xs ys r s)
+
+part-rises : {low high : ℕ} (n : ℕ) → low ≤ n → n ≤ high → (ws : List (List ℕ)) → Rises low (inPart n ws) high
+part-rises n h k [] = level (le-trans h k)
+part-rises n h k (w ∷ ws) = rising h (part-rises n (le-refl n) k ws)
+
+form-rises : (r : Record) (f : Form) → Rises 7 (formParts r f) 12
+form-rises r NoForm = level (lit≤ tt)
+form-rises r (Test n) = part-rises 7 (lit≤ tt) (lit≤ tt) (formWords r (Test n))
+form-rises r (Cancellation s from) = part-rises 7 (lit≤ tt) (lit≤ tt) (formWords r (Cancellation s from))
+form-rises r Reported =
+    then _ _ (part-rises {high = 8} 7 (lit≤ tt) (lit≤ tt) (phenomenonWords (r .report .phenomenon) (r .report .volcano)))
+    (then _ _ (part-rises {high = 9} 8 (lit≤ tt) (lit≤ tt) (observationWords (r .report .observation)))
+    (then _ _ (part-rises {high = 10} 9 (lit≤ tt) (lit≤ tt) (extentWords (r .area .closing) (r .report .extent)))
+    (then _ _ (part-rises {high = 11} 10 (lit≤ tt) (lit≤ tt) (levelWords (r .report .level)))
+    (part-rises 11 (lit≤ tt) (lit≤ tt) (endingWords (timeOfDay (r .line .valid .to)) (r .area .closing) (r .report .ending) (r .report .forecast))))))
+
+message-rises : (r : Record) → Rises 4 (messageParts r) 12
+unfolding partsOf
+message-rises r =
+    then (partsOf r) _
+    (then _ _ (part-rises {high = 5} 4 (lit≤ tt) (lit≤ tt) (take 3 (headingWords (r .heading))))
+    (then _ _ (part-rises {high = 5} 5 (lit≤ tt) (lit≤ tt) (drop 3 (headingWords (r .heading))))
+    (then _ _ (part-rises {high = 6} 5 (lit≤ tt) (lit≤ tt) (lineWords (r .line)))
+    (then _ _ (part-rises {high = 7} 6 (lit≤ tt) (lit≤ tt) (areaWords (r .area))) (form-rises r (r .form))))))
+    (part-rises 12 (lit≤ tt) (lit≤ tt) ([] ∷ []))
+
+rises-all : {low high : ℕ} (x : Marked) (ms : List Marked) → Rises low ms high → List·Memᴰ x ms → low ≤ x .number
+rises-all x (m ∷ ms) (rising h r) (List·Memᴰ·head e) = rw e h
+rises-all x (m ∷ ms) (rising h r) (List·Memᴰ·tail i) = le-trans h (rises-all x ms r i)
+
+rises-rest : {low high : ℕ} (seen left : List Marked) → Rises low (seen ++ left) high → Rises low left high
+rises-rest [] left r = r
+rises-rest (x ∷ xs) left (rising h r) = rises-from left h (rises-rest xs left r)
+
+-- no word after this one has a lesser part
+pub in-order : (r : Record) (seen left : List Marked) (m x : Marked) → seen ++ (m ∷ left) ≡ messageParts r → List·Memᴰ x (m ∷ left) → m .number ≤ x .number
+in-order r seen left m x e i = from (rises-rest seen (m ∷ left) (rw e (message-rises r))) i
+  where
+    from : Rises 4 (m ∷ left) 12 → List·Memᴰ x (m ∷ left) → m .number ≤ x .number
+    from (rising h s) (List·Memᴰ·head same) = rw same (le-refl (m .number))
+    from (rising h s) (List·Memᴰ·tail later) = rises-all x left s later

@@ -1,5 +1,4 @@
 -- Every word of a good record is a plain word: allowed bytes, no blank and no `=`.
--- Assumes nothing.
 use mathlib.Core.Bool.{true, false}
 use mathlib.Core.List.{List, _++_}
 use mathlib.Core.Path.{_≡_, refl, _∙_}

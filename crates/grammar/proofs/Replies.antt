@@ -1,5 +1,4 @@
 -- The reply on every list of bytes: accepted or refused, as `Replied` says without the machine, and in no other way.
--- Assumes nothing.
 use mathlib.Core.Bool.{Bool, true, false}
 use mathlib.Core.List.{List, [], _∷_, _++_}
 use mathlib.Core.Path.{_≡_, refl, ap, _∙_}

@@ -1,6 +1,5 @@
 -- Runs, with places and numbers, and walks, over the words alone: a run accepts a record where the walk ends with it, and is refused where
 -- the walk dies.
--- Assumes nothing.
 use mathlib.Core.List.{List, [], _∷_, _++_}
 use mathlib.Core.Path.{_≡_, refl, ap, sym, _∙_}
 use Prim.Native.Nat.{ℕ}

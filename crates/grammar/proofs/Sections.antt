@@ -1,5 +1,4 @@
 -- The sections put together: what every word owes in every state, and that every state which is reached is live.
--- Assumes nothing.
 use mathlib.Core.Bool.{false}
 use mathlib.Core.List.{List}
 use mathlib.Core.Path.{_≡_}

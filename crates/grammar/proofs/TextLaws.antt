@@ -1,6 +1,5 @@
 -- From words to bytes: a good record's text is read as that record and is canonical, and a canonical text that is read is the text of its
 -- record. What is accepted is handed over: the words of a good record, and no others.
--- Assumes nothing.
 use mathlib.Core.Bool.{Bool, true, not}
 use mathlib.Core.List.{List, [], _∷_, _++_, append-assoc, append-cancel-right}
 use mathlib.Core.Path.{_≡_, refl, ap, sym, _∙_}

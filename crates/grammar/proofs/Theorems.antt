@@ -1,8 +1,7 @@
 -- The theorems of the grammar, with nothing left open. They speak of `good`, `wordsOf` and `textOf` (crate message), of the words of a text
 -- (crate words), and of what is said without the machine in `Judged` and `Replies`; `step` stands in none but through `run`, `walk`, `readOf`.
--- Assumes nothing.
 use mathlib.Core.Bool.{true}
-use mathlib.Core.List.{List, [], _∷_, _++_}
+use mathlib.Core.List.{List, [], _∷_, _++_, map, List·Memᴰ}
 use mathlib.Core.Logic.{_↔_}
 use mathlib.Core.Path.{_≡_, ap, sym, _∙_}
 use Prim.Native.Nat.{ℕ, suc, _≤_}
@@ -12,9 +11,10 @@ use Rattle.words.specs.Words.{Word}
 use Rattle.message.specs.Records.{good}
 use Rattle.message.specs.Words.{wordsOf, textOf}
 use Rattle.message.specs.declared.Record.{Record}
-use Rattle.grammar.specs.Judged.{messageWords, bytesOf, Whole, RefusedAt}
+use Rattle.grammar.specs.Judged.{messageWords, bytesOf, Whole, ComesNext, JudgedAs, RefusedAt}
 use Rattle.grammar.specs.Layout.{Canonical}
 use Rattle.grammar.specs.Bulletins.{acceptance}
+use Rattle.grammar.specs.Parts.{Marked, marked, messageParts}
 use Rattle.grammar.specs.Reads.{readOf}
 use Rattle.grammar.specs.Replies.{Replied}
 use Rattle.grammar.specs.Runs.{walk, run}
@@ -29,8 +29,10 @@ use Rattle.grammar.proofs.Forth.{good-accepted}
 use Rattle.grammar.proofs.Lengths.{text-fits}
 use Rattle.grammar.proofs.Marks.{accepted-good, accepted-words}
 use Rattle.grammar.proofs.Opening.{plain-heading, plain-line}
+use Rattle.grammar.proofs.PartLaws.{in-order}
 use Rattle.grammar.proofs.Plain.{plain-body}
 use Rattle.grammar.proofs.Replies.{text-accepted, text-accepts, replied, reply-only}
+use Rattle.grammar.proofs.Required.{judged-required}
 use Rattle.grammar.proofs.RunLaws.{done-same, run-walks, walk-runs}
 use Rattle.grammar.proofs.Sections.{sound, next}
 use Rattle.grammar.proofs.TextLaws.{text-read, text-canonical, canonical-is-text, write-read, read-write, write-refused}
@@ -69,6 +71,15 @@ theorem-c-d ws n p = refused-exactly sound next good-accepted ws n p
 -- d. The number is 12 exactly where the words before also make an accepted message with the `=`.
 pub theorem-d-twelve : (ws : List Word) (number place : ℕ) (r : RefusedAt ws number place) → (number ≡ 12) ↔ Whole (bytesOf (r .before) ++ ([] ∷ []))
 theorem-d-twelve ws n p r = twelve-exactly sound next good-accepted ws n p r
+
+-- d. Every accepted message that begins with the words before still has a word of the part that the next word is judged as, …
+pub theorem-d-required : (ws : List (List ℕ)) (part : ℕ) → JudgedAs ws part → (r : Record) → good r ≡ true
+    → (seen left : List Marked) → seen ++ left ≡ messageParts r → map (λ (m : Marked). m .word) seen ≡ ws → (word : List ℕ) × List·Memᴰ (marked part word) left
+theorem-d-required ws part j r g seen left parts words = judged-required sound next good-accepted ws part j r g seen left parts words
+
+-- … and of the parts that may come next no later one is required: the parts of a message come in the order of their numbers.
+pub none-later : (ws : List (List ℕ)) (part other : ℕ) (c : ComesNext ws other) (word : List ℕ) → List·Memᴰ (marked part word) (marked other (c .word) ∷ c .rest) → other ≤ part
+none-later ws part other c word i = in-order (c .message) (c .before) (c .rest) (marked other (c .word)) (marked part word) (c .parts) i
 
 -- Bytes.
 

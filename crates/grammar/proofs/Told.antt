@@ -1,5 +1,4 @@
 -- What a state has been told: the words read so far with the numbers of their parts, the last word first.
--- Assumes nothing.
 use mathlib.Core.List.{List, [], _∷_, _++_, map-append}
 use mathlib.Core.Path.{_≡_, refl, _∙_}
 use Prim.Native.Nat.{ℕ}

@@ -1,5 +1,4 @@
 -- Theorem d, its first half: 12 exactly where the words before also make an accepted message with the `=`.
--- Assumes nothing.
 use mathlib.Core.Bool.{true}
 use mathlib.Core.List.{List, [], _∷_, _++_}
 use mathlib.Core.Logic.{_↔_}

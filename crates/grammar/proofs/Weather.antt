@@ -1,5 +1,4 @@
 -- The phenomena of a WS: what each word owes there, how the machine goes on from there, and that it reads what is written.
--- Assumes nothing.
 use mathlib.Core.Bool.{true, false}
 use mathlib.Core.List.{List, [], _∷_, _++_, append-nil}
 use mathlib.Core.Path.{_≡_, refl}

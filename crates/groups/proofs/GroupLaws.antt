@@ -1,5 +1,4 @@
 -- Groups, periods and times: word and value undo one another, and what is spelled holds neither a blank nor `=`.
--- Assumes nothing.
 use mathlib.Core.Bool.{Bool, true}
 use mathlib.Core.List.{List, _∷_, _++_}
 use mathlib.Core.Path.{_≡_, refl, _∙_}

@@ -1,5 +1,4 @@
 -- The words of the heading and the office: each reader and its spelling undo one another, and each spelling is a word.
--- Assumes nothing.
 use mathlib.Core.Bool.{Bool, true}
 use mathlib.Core.List.{List, _++_}
 use mathlib.Core.Logic.{inl, inr}

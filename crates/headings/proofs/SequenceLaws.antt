@@ -1,5 +1,4 @@
 -- The sequence: its reader and its spelling undo one another, and the spelling is a word.
--- Assumes nothing.
 use mathlib.Core.Bool.{true, false}
 use mathlib.Core.List.{List, _∷_}
 use mathlib.Core.Path.{_≡_, refl, ap, sym, _∙_}

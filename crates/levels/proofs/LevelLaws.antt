@@ -1,5 +1,4 @@
 -- A level that is one word, and the word: reading and spelling undo one another.
--- Assumes nothing.
 use mathlib.Core.Bool.{Bool, true, false}
 use mathlib.Core.List.{List, _∷_, _++_}
 use mathlib.Core.Logic.{inl, inr}

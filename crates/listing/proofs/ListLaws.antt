@@ -1,6 +1,5 @@
 -- The reply of a listing: a refusal counts nothing and leaves the buffer as it was, and a listing counts its own bytes, which fit in the
 -- buffer; what it lists is what is in force on a good board. What is left for `list`: one law for each reply.
--- Assumes nothing.
 use mathlib.Core.Bool.{true, false}
 use mathlib.Core.List.{List, _++_}
 use mathlib.Core.Path.{_≡_, refl, subst, sym, _∙_}

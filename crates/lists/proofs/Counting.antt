@@ -1,5 +1,4 @@
 -- A list of different elements that all stand in another is no longer than that one.
--- Assumes nothing.
 use mathlib.Core.List.{List, [], _∷_, List·Memᴰ, List·Memᴰ·head, List·Memᴰ·tail, List·Nodup, Pairwise·of-cons, rel-of-pairwise-cons}
 use mathlib.Core.Logic.{_⊎_, inl, inr, ⊎-elim}
 use mathlib.Core.Path.{_≡_, refl, sym, ap, _∙_}

@@ -1,5 +1,4 @@
 -- The two connectives' own contracts determine their replies.
--- Assumes nothing.
 use Rattle.lists.specs.Determined.{Determines}
 use Rattle.lists.proofs.Choice.{determined}
 use Rattle.lists.proofs.both.Kinds as both-kinds

@@ -1,5 +1,4 @@
 -- The laws of searching and testing a list, in the shapes that loops ask for.
--- Assumes nothing.
 use mathlib.Core.Bool.{Bool, true, false, not, Bool·not-not}
 use mathlib.Core.List.{List, [], _∷_, _++_, map, append-nil, List·Memᴰ, List·Memᴰ·head, List·Memᴰ·tail}
 use mathlib.Core.Path.{_≡_, refl, ap, _∙_}

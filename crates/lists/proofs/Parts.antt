@@ -1,5 +1,4 @@
 -- The parts of a list that was put together, a list put together from its parts, and a word with a mark at a place.
--- Assumes nothing.
 use mathlib.Core.Bool.{Bool, true}
 use mathlib.Core.List.{List, _∷_, _++_}
 use mathlib.Core.Path.{_≡_, sym, _∙_}

@@ -1,6 +1,5 @@
 -- Changing every element of a list in place, one after the other, as a loop over an array does. And the length of a list by
 -- that of what it is mapped to.
--- Assumes nothing.
 use mathlib.Core.List.{List, _++_, map, append-nil}
 use mathlib.Core.Path.{_≡_, sym, _∙_}
 use Prim.Native.Nat.{ℕ, suc, _+_, _≤_, _<_}

@@ -1,5 +1,4 @@
 -- What a good record has, part by part: `X-parts` from the whole, and `X-good` back where it is asked for.
--- Assumes nothing.
 use mathlib.Core.Bool.{Bool, true, false, not}
 use mathlib.Core.List.{List}
 use mathlib.Core.Path.{_≡_}

@@ -1,5 +1,4 @@
 -- The sample evaluated: its record is good, and its canonical text is the paper's 130 bytes.
--- Assumes nothing.
 use mathlib.Core.Bool.{true, false}
 use mathlib.Core.Path.{_≡_, refl}
 use lib.ListN.{length}

@@ -1,5 +1,4 @@
 -- Compass points, intensities and speeds: each reader and its spelling undo one another, and each spelling is a word.
--- Assumes nothing.
 use mathlib.Core.Bool.{true, false}
 use mathlib.Core.List.{List, [], map}
 use mathlib.Core.Path.{_≡_, refl, sym}

@@ -1,6 +1,5 @@
 -- The laws of names: the words that close one, the words it may have, and the text of it: what stands between the single spaces
 -- of a text, joined by single spaces, is that text, and the other way.
--- Assumes nothing.
 use mathlib.Core.Bool.{Bool, true, false, not}
 use mathlib.Core.List.{List, [], _∷_, _++_}
 use mathlib.Core.Path.{_≡_, refl, ap, sym, _∙_}

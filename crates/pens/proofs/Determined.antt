@@ -1,5 +1,4 @@
 -- The public contracts of this crate settle reply and buffer: two outcomes that one allows on the same arguments are equal.
--- Assumes nothing.
 use mathlib.Core.Path.{ap, sym, _∙_}
 use Rattle.lists.specs.Determined.{Determines, Settles}
 use Rattle.pens.specs.Pens.{Pen}

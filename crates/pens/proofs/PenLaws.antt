@@ -1,5 +1,4 @@
 -- A pen that puts one text and then another has put both; words with a space before each are a line; and a text with room is put whole.
--- Assumes nothing.
 use mathlib.Core.List.{List, [], _∷_, _++_, map, map-append, append-assoc, append-nil}
 use mathlib.Core.Path.{_≡_, refl, ap, sym, subst, _∙_}
 use Prim.Native.Nat.{ℕ, zero, suc, _+_, _-_, _/_, _%_, _≤_, _<_}

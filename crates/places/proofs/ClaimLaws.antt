@@ -1,5 +1,4 @@
 -- What a message claims where it is not refused: a held place, a marked one for a cancellation; and nothing for a test.
--- Assumes nothing.
 use mathlib.Core.Bool.{true}
 use mathlib.Core.Path.{_≡_, refl}
 use Prim.Native.Nat.{ℕ, _<_}

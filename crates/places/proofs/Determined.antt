@@ -1,5 +1,4 @@
 -- The public contracts of this crate determine their replies: two replies that one of them allows on the same arguments are equal.
--- Assumes nothing.
 use Rattle.lists.proofs.Choice.{determined}
 use Rattle.lists.specs.Determined.{Determines}
 use Rattle.places.proofs.places.same_identity.Kinds as same-identity-kinds

@@ -1,5 +1,4 @@
 -- A place by itself: the same identity is an equal one, the parts of a held identity, and the empty place.
--- Assumes nothing.
 use mathlib.Core.Bool.{true, false, not}
 use mathlib.Core.Path.{_≡_, refl, ap}
 use Prim.Native.Nat.{ℕ, _+_, _≤_, _<_}

@@ -1,6 +1,6 @@
 -- What a message asks of the board at a clock: the place that it would take, or a refusal.
 -- 01, "13; 15 a test; 18 no start; 19 no end, or no start of a target; 20 end at or before the clock"
--- Tied: `claim-cause`, `cause-claim` (crates/promises/proofs/Messages.antt).
+-- Tied: `asks` (crates/promises/proofs/Messages.antt).
 use mathlib.Core.Bool.{Bool, true, false, not}
 use Prim.Native.Nat.{ℕ}
 use lib.Dec.{leb, eqb}

@@ -1,9 +1,8 @@
 -- What a post answers on any board, and what it leaves.
--- Assumes nothing.
 use mathlib.Core.Bool.{true, false, not}
 use mathlib.Core.List.{List}
 use mathlib.Core.Path.{_≡_, refl, sym, ap, subst, _∙_}
-use Prim.Native.Nat.{ℕ, _≤_, _<_}
+use Prim.Native.Nat.{ℕ, _<_}
 use native.Mathlib.Omega.{arith}
 use lib.Dec.{ltb, eqb}
 use lib.ListN.{length, getD}
@@ -25,7 +24,6 @@ use Rattle.board.specs.declared.Posted.{Posted}
 use Rattle.board.proofs.Invariant.{board-parts, dropped-length, post-good}
 use Rattle.board.proofs.RefusalLaws.{unrefused-parts}
 use Rattle.board.proofs.PostLaws.{refused-unchanged, accepted-parts, dropped-at, given, others-stay}
-use Rattle.board.proofs.SettleLaws.{spot-within}
 use Rattle.promises.specs.Calls.{MayPost}
 use Rattle.promises.specs.Refusals.Concerns.{reports, cancels}
 use Rattle.promises.specs.AnyBoard.{placeOf, HeldAt, afterDropping, foundOn, AnsweredOn, Becomes, GoesTo, Takes, PostsOnAnyBoard}

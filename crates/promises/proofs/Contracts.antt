@@ -1,5 +1,4 @@
 -- Demands 1 and 2 hold: what crates grammar, roundtrips, board and listing have proved of the contracts, gathered.
--- Assumes nothing.
 use mathlib.Core.Bool.{false}
 use mathlib.Core.List.{List, []}
 use mathlib.Core.Logic.{_↔_}

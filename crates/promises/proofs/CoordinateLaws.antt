@@ -1,5 +1,4 @@
 -- What is promised of coordinates holds, by the laws of crate coordinates.
--- Assumes nothing.
 use mathlib.Core.Bool.{true, false}
 use mathlib.Core.Logic.{_↔_, inl, inr}
 use mathlib.Core.Path.{_≡_, refl, sym, subst, _∙_}

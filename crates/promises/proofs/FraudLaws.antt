@@ -1,5 +1,4 @@
 -- The four frauds are excluded, and every board that meets demand 3 behaves as ours: the paper's own cases show each fraud up.
--- Assumes nothing.
 use mathlib.Core.List.{List, [], _∷_, _++_}
 use mathlib.Core.Path.{_≡_, refl, sym, ap, subst, _∙_}
 use Prim.Native.Nat.{ℕ}

@@ -1,5 +1,4 @@
 -- Every public function's contract determines its outcome: the laws that stand beside each, in one table.
--- Assumes nothing.
 use Rattle.lists.proofs.Determined as lists-laws
 use Rattle.words.proofs.Determined as words-laws
 use Rattle.figures.proofs.Determined as figures-laws

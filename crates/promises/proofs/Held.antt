@@ -1,5 +1,4 @@
 -- What is held on a board, and what an accepted post does to it: the message's place comes in, what has ended goes, and all else stays.
--- Assumes nothing.
 use mathlib.Core.Bool.{true, false, not}
 use mathlib.Core.List.{List}
 use mathlib.Core.Logic.{_⊎_, inl, inr}

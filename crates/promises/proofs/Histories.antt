@@ -1,13 +1,11 @@
 -- Demand 3 holds.
--- Assumes nothing.
-use mathlib.Core.Bool.{true}
 use mathlib.Core.List.{List, [], _∷_, _++_, Pairwise·imp}
 use mathlib.Core.Logic.{_↔_}
 use mathlib.Core.Path.{_≡_, refl, sym, ap, subst, _∙_}
 use Prim.Native.Nat.{ℕ, _≤_, _<_}
 use native.Mathlib.Omega.{arith}
 use lib.ListN.{length, drop}
-use Rattle.lists.proofs.Choice.{clash, determined}
+use Rattle.lists.proofs.Choice.{determined}
 use Rattle.message.specs.declared.Record.{Record}
 use Rattle.board.specs.Boards.{emptyBoard}
 use Rattle.board.specs.Posts.{postOf}
@@ -24,7 +22,8 @@ use Rattle.promises.specs.Calls.{Call, History, MayBegin, MayPost, MayLi
 use Rattle.promises.specs.Calls.Call.{posted, listed}
 use Rattle.promises.specs.Calls.Run.{begun, then-posted, then-listed}
 use Rattle.promises.specs.Accepted.{Known}
-use Rattle.promises.specs.Answers.{Timely, Concerns, Full, PostAnswered}
+use Rattle.promises.specs.Refusals.{Concerns}
+use Rattle.promises.specs.Answers.{Timely, Full, PostAnswered}
 use Rattle.promises.specs.InForce.{IsListing, ListAnswered}
 use Rattle.listing.specs.Listings.{listing}
 use Rattle.promises.specs.InForce.ListAnswered.{outside, early, short, whole}

@@ -8,6 +8,7 @@ pub mod OrderLaws
 pub mod Listing
 pub mod Histories
 pub mod Contracts
+pub mod JudgementLaws
 pub mod CoordinateLaws
 pub mod StarredLaws
 pub mod FraudLaws

@@ -1,5 +1,4 @@
 -- The rows that are listed are those that the history has in force, and no other list is so.
--- Assumes nothing.
 use mathlib.Core.Bool.{Bool, true, false, not}
 use mathlib.Core.List.{List, [], _∷_, List·Memᴰ, List·Memᴰ·head, List·Memᴰ·tail, List·Memᴰ·cases-cons, Pairwise, Pairwise·of-cons, rel-of-pairwise-cons}
 use mathlib.Core.Logic.{_⊎_, inl, inr, ⊎-elim}

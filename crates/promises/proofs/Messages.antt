@@ -1,5 +1,4 @@
 -- What a message asks of a board, in the paper's words: a number that no board can change, or a place.
--- Assumes nothing.
 use mathlib.Core.Bool.{Bool, true, false}
 use mathlib.Core.Path.{_≡_, refl, sym, ap, subst, _∙_}
 use Prim.Native.Nat.{ℕ, _≤_, _<_}
@@ -16,7 +15,7 @@ use Rattle.message.specs.declared.Record.{Record}
 use Rattle.message.proofs.Goodness.{good-parts}
 use Rattle.calendar.specs.Gregorian.{never}
 use Rattle.calendar.specs.Instants.{endOf, targetOf}
-use Rattle.calendar.specs.Declared.{IsStart, IsEnd, IsTarget}
+use Rattle.calendar.specs.Declared.{IsStart, IsEnd}
 use Rattle.calendar.proofs.CalendarLaws.{start-found, start-bound, start-only, start-none, end-found, end-bound, end-complete, end-only, end-none, target-found, target-bound, target-complete, target-none}
 use Rattle.places.specs.Padded.{paddedOf}
 use Rattle.places.specs.Places.{noPlace}

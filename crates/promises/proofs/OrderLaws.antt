@@ -1,5 +1,4 @@
 -- The order of the listing: of held identities, the order of the numbers that are kept is that of the characters; and these are as written.
--- Assumes nothing.
 use mathlib.Core.Bool.{Bool, true, Bool-set}
 use mathlib.Core.List.{List, [], _∷_, List·Memᴰ, List·Memᴰ·head, List·Memᴰ·tail, Pairwise, Pairwise·nil, Pairwise·cons, Pairwise·of-cons, rel-of-pairwise-cons}
 use mathlib.Core.Logic.{_↔_, ∥∥₁-elim}

@@ -1,5 +1,4 @@
 -- The number of a post is the first one whose cause holds, by whatever is known of the places; and there is one such number.
--- Assumes nothing.
 use mathlib.Core.Bool.{true, false, not}
 use mathlib.Core.List.{List}
 use mathlib.Core.Path.{_≡_, refl, sym, ap, subst, _∙_}
@@ -7,7 +6,7 @@ use Prim.Native.Nat.{ℕ, _≤_, _<_}
 use native.Mathlib.Omega.{arith}
 use lib.Dec.{leb, ltb, eqb}
 use lib.ListN.{length, getD}
-use borrow.Author.Tests.{leb-true, leb-false, ltb-true, ltb-false, eqb-true, eqb-false, le-leb, lt-ltb, le-ltb, eq-eqb, ne-eqb}
+use borrow.Author.Tests.{leb-true, leb-false, ltb-true, ltb-false, eqb-true, le-leb, lt-ltb, le-ltb, ne-eqb}
 use Rattle.lists.specs.Lists.{allOf}
 use Rattle.lists.proofs.Choice.{by, clash, both-true}
 use Rattle.words.proofs.Ranges.{between-low, between-high}
@@ -21,7 +20,7 @@ use Rattle.board.specs.Posts.{dropped, spotOf, placeAt, settled, claimedOn, pos
 use Rattle.board.specs.declared.Board.{Board}
 use Rattle.board.proofs.SettleLaws.{objection-22, objection-again, objection-21, objection-none, objection-marks}
 use Rattle.promises.specs.Accepted.{IsReport, IsCancellation}
-use Rattle.promises.specs.Refusals.{Refuses, InRange, Concerns, Unfit, Found, Already, NoRoom, Unplaced, Answered}
+use Rattle.promises.specs.Refusals.{Refuses, InRange, Unfit, Found, Already, Unplaced, Answered}
 use Rattle.promises.specs.Refusals.Refuses.{given, passed}
 use Rattle.promises.specs.Refusals.Concerns.{reports, cancels}
 use Rattle.promises.specs.Refusals.Already.{held, again}

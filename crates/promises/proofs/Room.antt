@@ -1,5 +1,4 @@
 -- Room: the places in use are as many as the accepted identities that have not ended.
--- Assumes nothing.
 use mathlib.Core.Bool.{true, false, not}
 use mathlib.Core.List.{List, [], _∷_, map, List·Memᴰ, List·Memᴰ·head, List·Memᴰ·tail, List·Nodup, Pairwise·nil, Pairwise·cons}
 use mathlib.Core.Logic.{∥∥₁-elim}

@@ -1,5 +1,4 @@
 -- The starred cases, evaluated.
--- Assumes nothing.
 use mathlib.Core.Bool.{true, false}
 use mathlib.Core.List.{List, _∷_, _++_}
 use mathlib.Core.Path.{_≡_, refl, ap, subst, _∙_}
@@ -27,8 +26,8 @@ use Rattle.message.specs.Reports.{emptyVolcano, goodPhenomenon, goodObservation
 use Rattle.message.specs.Sample.{dayAndTime, sample}
 use Rattle.message.specs.declared.Record.{Record}
 use Rattle.cases.specs.Samples.{cancelling}
-use Rattle.calendar.specs.Gregorian.{never, firstDay, monthLength, dayFrom, dayOfMonth}
-use Rattle.calendar.specs.Instants.{matches, onDay, instantIn, startOf, endOf, targetOf}
+use Rattle.calendar.specs.Gregorian.{never, firstDay, monthLength}
+use Rattle.calendar.specs.Instants.{dayFrom, dayOfMonth, matches, onDay, instantIn, startOf, endOf, targetOf}
 use Rattle.places.specs.Padded.{padded, unpadded, heldSequence}
 use Rattle.places.specs.Places.{sameIdentity, noPlace, emptyPlace, heldIdentity, heldCorrection, heldPlace, goodPlace}
 use Rattle.board.specs.Boards.{distinct, goodPlaces, goodBoard, emptyBoard, refusalAt}

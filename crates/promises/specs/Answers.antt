@@ -1,5 +1,5 @@
--- The answer to a post by the history: "A post is turned away exactly for the causes numbered in the paper; room freed by ended messages is used
--- again." 36 has no cause: no history leads to a bad board.
+-- Demand 3: "A post is turned away exactly for the causes numbered in our paper, and room freed by ended messages is used again." What a post
+-- finds by the history of calls, and so its answer.
 -- Believed.
 use mathlib.Core.List.{List, List·Memᴰ, List·Nodup}
 use mathlib.Core.Path.{_≡_}
@@ -10,8 +10,7 @@ use Rattle.places.specs.declared.Identity.{Identity}
 use Rattle.board.specs.Boards.{placeCount}
 use Rattle.promises.specs.Calls.{History}
 use Rattle.promises.specs.Accepted.{Reported, Cancelled, Known, lastClock}
-pub use Rattle.promises.specs.Refusals.{InRange, Concerns}
-use Rattle.promises.specs.Refusals.{Found, Answered}
+use Rattle.promises.specs.Refusals.{InRange, Found, Answered}
 
 -- in range, and no earlier than the last accepted post
 pub record Timely (h : History) (clock : ℕ) : Type 0 where
@@ -26,7 +25,8 @@ pub record Full (h : History) (clock : ℕ) : Type 0 where
   pub known : (i : Identity) → List·Memᴰ i identities → Known i h
   pub lasting : (i : Identity) → List·Memᴰ i identities → clock < i .end
 
--- what a post at the clock finds: marked is what an accepted cancellation names, held is what was accepted as a report
+-- what a post at the clock finds: marked is what an accepted cancellation names, and held what was reported and accepted, by any of its
+-- corrections; no history leads to a bad board
 abbrev pub foundAfter : History → ℕ → Found
 foundAfter h clock =
     record {

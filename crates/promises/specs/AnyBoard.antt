@@ -1,5 +1,7 @@
--- Demand 3 speaks of the boards that calls lead to. This is of any board, wherever it came from: what a post answers, and what it leaves, by the
--- board's clock and its 64 places.
+-- 01, "An accepted post sets the board's clock and first drops places whose end is at or before it. A report takes a place, or replaces the one
+-- of its identity when its correction is later (none, then A to X). A cancellation marks its target's place, or takes a marked place where none
+-- is held; a marked place's correction is none. Dropped places become empty where they stand, and a new place is the lowest empty one."
+-- Demand 3 speaks of the boards that calls lead to; this of any board, wherever it came from, by its clock and its 64 places.
 -- Believed.
 use mathlib.Core.Bool.{true, false}
 use mathlib.Core.Logic.{_↔_}
@@ -18,8 +20,7 @@ use Rattle.promises.specs.Calls.{MayPost}
 use Rattle.promises.specs.Accepted.{IsReport, IsCancellation}
 use Rattle.promises.specs.Refusals.{Found, Answered}
 
--- Its places, counted from 0.
-
+-- a place by its number, from 0 to 63
 abbrev pub placeOf : Board → ℕ → Place
 placeOf b k = getD (b .places) k noPlace
 
@@ -28,11 +29,9 @@ pub record HeldAt (b : Board) (i : Identity) (k : ℕ) : Type 0 where
   pub within : k < placeCount
   pub its : placeOf b k .identity ≡ i
 
--- "first drops places whose end is at or before it. …. Dropped places become empty where they stand"
+-- "drops places whose end is at or before it"; "Dropped places become empty where they stand"
 abbrev pub afterDropping : Board → ℕ → ℕ → Place
 afterDropping b clock k = pick (leb (placeOf b k .identity .end) clock) noPlace (placeOf b k)
-
--- The answer.
 
 -- what a post at the clock finds
 abbrev pub foundOn : Board → ℕ → Found
@@ -49,21 +48,19 @@ foundOn b clock =
 abbrev pub AnsweredOn : Board → ℕ → Record → ℕ → Type 0
 AnsweredOn b clock r = Answered (foundOn b clock) clock r
 
--- The board after an accepted post.
-
--- what the message becomes: a report an identity with its correction and no mark, a cancellation a mark on the identity that it names; "a marked
--- place's correction is none"
+-- What an accepted message becomes: a report a place with its identity and correction, a cancellation one with its target's identity and a mark;
+-- "a marked place's correction is none".
 pub data Becomes (clock : ℕ) (r : Record) : Place → Type 0 where
   reported : {i : Identity} {c : ℕ} → IsReport clock r i c → Becomes clock r (record { identity = i; correction = c; marked = false })
   named : {i : Identity} → IsCancellation clock r i → Becomes clock r (record { identity = i; correction = 0; marked = true })
 
--- where it goes: "replaces the one of its identity", "marks its target's place"; else "a new place is the lowest empty one"
+-- Where that goes: "replaces the one of its identity", "marks its target's place"; else "a new place is the lowest empty one".
 pub data GoesTo (b : Board) (clock : ℕ) (i : Identity) (k : ℕ) : Type 0 where
   where-held : HeldAt b i k → GoesTo b clock i k
   lowest-empty : ((j : ℕ) → HeldAt b i j → ⊥) → k < placeCount → afterDropping b clock k ≡ noPlace
       → ((j : ℕ) → j < k → afterDropping b clock j ≡ noPlace → ⊥) → GoesTo b clock i k
 
--- "An accepted post sets the board's clock and first drops places": the message stands in its place, and every other is as the dropping left it
+-- "An accepted post sets the board's clock and first drops places": then the message stands where it goes, and every other place is as it was left.
 pub record Takes (b : Board) (clock : ℕ) (r : Record) (after : Board) : Type 0 where
   pub sets-clock : after .clock ≡ clock
   pub places : length (after .places) ≡ placeCount
@@ -81,6 +78,6 @@ pub record PostsOnAnyBoard : Type 0 where
   pub turned-away : (b after : Board) (clock : ℕ) (r : Record) (answer : ℕ) → MayPost b clock r answer after → (n : ℕ) → (answer ≡ n) ↔ AnsweredOn b clock r n
   -- "Board unchanged, its clock too."
   pub refused : (b after : Board) (clock : ℕ) (r : Record) (answer : ℕ) → MayPost b clock r answer after → (answer ≡ 0 → ⊥) → after ≡ b
-  -- accepted: the board takes the message, and there is one board that has done so
+  -- accepted: the board takes the message, and no other board is what it then is
   pub takes : (b after : Board) (clock : ℕ) (r : Record) → MayPost b clock r 0 after → Takes b clock r after
   pub one-after : (b after other : Board) (clock : ℕ) (r : Record) → MayPost b clock r 0 after → Takes b clock r other → other ≡ after

@@ -15,7 +15,8 @@ use Rattle.places.specs.declared.Place.{Place}
 use Rattle.promises.specs.Calls.{Call, History}
 use Rattle.promises.specs.Calls.Call.{posted, listed}
 use Rattle.promises.specs.Accepted.{IsReport, Reported, Known, lastClock}
-use Rattle.promises.specs.Answers.{Timely, Concerns, Full, PostAnswered}
+use Rattle.promises.specs.Refusals.{Concerns}
+use Rattle.promises.specs.Answers.{Timely, Full, PostAnswered}
 use Rattle.promises.specs.InForce.{IsListing, ListAnswered}
 use Rattle.listing.specs.Listings.{listing}
 

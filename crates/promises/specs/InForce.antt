@@ -12,7 +12,8 @@ use Rattle.places.specs.declared.Place.{Place}
 use Rattle.listing.specs.Listings.{listing}
 use Rattle.promises.specs.Calls.{History}
 use Rattle.promises.specs.Accepted.{Reported, Cancelled, lastClock}
-use Rattle.promises.specs.Answers.{InRange, Timely}
+use Rattle.promises.specs.Refusals.{InRange}
+use Rattle.promises.specs.Answers.{Timely}
 use Rattle.promises.specs.Order.{InOrder}
 
 -- A row, an identity with a correction, is in force at the time: it was reported, with no later correction, no accepted cancellation names

@@ -5,6 +5,7 @@ pub mod Answers
 pub mod Order
 pub mod InForce
 pub mod Demand1
+pub mod Judgements
 pub mod Demand2
 pub mod Demand3
 pub mod AnyBoard

@@ -1,7 +1,8 @@
 -- 01, "Post: 36 not a good board; 16 clock outside its range; 17 clock before the board's; 13; 15 a test; 18 no start; 19 no end, or no start of
 -- a target; 20 end at or before the clock; 22 a report whose identity is marked; 21 a report held with the same or a later correction, or a
 -- cancellation whose target is marked; 23 a new place needed and all 64 in use after the dropping."
--- The numbers in this order, each with its cause: of what a post finds, which specs/Answers.antt says of a history and specs/AnyBoard.antt of a board.
+-- The numbers in this order, each with its cause by what the post finds. What it finds is said of a history in specs/Answers.antt and of a board
+-- in specs/AnyBoard.antt.
 -- Believed.
 use mathlib.Core.Bool.{false}
 use mathlib.Core.Path.{_≡_}
@@ -15,12 +16,12 @@ use Rattle.calendar.specs.Declared.{IsStart, IsEnd, IsTarget}
 use Rattle.places.specs.declared.Identity.{Identity}
 use Rattle.promises.specs.Accepted.{IsReport, IsCancellation}
 
--- A number is given where its cause holds; those behind it only where that cause does not.
+-- A number is given where its cause holds, and those behind it only where that cause does not.
 pub data Refuses (number : ℕ) (cause : Type 0) (behind : ℕ → Type 0) : ℕ → Type 0 where
   given : cause → Refuses number cause behind number
   passed : {n : ℕ} → (cause → ⊥) → behind n → Refuses number cause behind n
 
--- nothing is left to refuse it for
+-- behind them all: nothing is left to refuse the message for
 abbrev pub Accepts : ℕ → Type 0
 Accepts n = n ≡ 0
 
@@ -34,7 +35,7 @@ pub data Concerns (clock : ℕ) (r : Record) (i : Identity) : Type 0 where
   reports : (correction : ℕ) → IsReport clock r i correction → Concerns clock r i
   cancels : IsCancellation clock r i → Concerns clock r i
 
--- The message by itself, at its clock.
+-- By the message and the clock alone.
 
 -- "19 no end, or no start of a target"
 pub data NoEnd (clock : ℕ) (r : Record) : Type 0 where
@@ -44,7 +45,7 @@ pub data NoEnd (clock : ℕ) (r : Record) : Type 0 where
       → IsStart clock (r .line .valid .from) start → IsEnd (r .heading .designator .kind) start (r .line .valid .to) end
       → ((t : ℕ) → IsTarget (r .heading .designator .kind) end from t → ⊥) → NoEnd clock r
 
--- "13; 15 a test; 18 no start; 19 …; 20 end at or before the clock": whatever the board
+-- "13; 15 a test; 18 no start; 19 …; 20 end at or before the clock"; 13 is "bad record"
 abbrev pub Unfit : ℕ → Record → (ℕ → Type 0) → ℕ → Type 0
 Unfit clock r behind =
     Refuses 13 (good r ≡ false)
@@ -52,18 +53,13 @@ Unfit clock r behind =
     (Refuses 18 ((t : ℕ) → IsStart clock (r .line .valid .from) t → ⊥)
     (Refuses 19 (NoEnd clock r) (Refuses 20 ((i : Identity) × Concerns clock r i × (i .end ≤ clock)) behind))))
 
--- What the message finds.
-
+-- By what the post finds: that the board is not good, its clock, which identities are marked, which reports are held with which correction, and
+-- that all 64 places are in use after the dropping.
 pub record Found : Type 1 where
-  -- the board is not good
   pub bad : Type 0
-  -- the board's clock
   pub clock : ℕ
-  -- the identity is marked
   pub marked : Identity → Type 0
-  -- a report of the identity is held, with that correction
   pub held : Identity → ℕ → Type 0
-  -- "all 64 in use after the dropping"
   pub full : Type 0
 
 -- "21 a report held with the same or a later correction, or a cancellation whose target is marked"
@@ -85,7 +81,7 @@ Unplaced f clock r =
     Refuses 22 ((i : Identity) × (c : ℕ) × IsReport clock r i c × f .marked i)
     (Refuses 21 (Already f clock r) (Refuses 23 (NoRoom f clock r) Accepts))
 
--- "36 not a good board; 16 clock outside its range; 17 clock before the board's; 13; …; 23 …"
+-- "Post: 36 not a good board; 16 clock outside its range; 17 clock before the board's; 13; …; 23 …": the answer to a post of the record at the clock
 abbrev pub Answered : Found → ℕ → Record → ℕ → Type 0
 Answered f clock r =
     Refuses 36 (f .bad)

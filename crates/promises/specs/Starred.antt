@@ -1,17 +1,16 @@
 -- The starred cases of 01, "The program and the sample", line by line in its order, about the definitions.
 -- Believed.
-use mathlib.Core.Bool.{true}
 use mathlib.Core.List.{List, [], _∷_, _++_}
 use mathlib.Core.Path.{_≡_}
 use Prim.Native.Char.{code}
 use Prim.Native.Nat.{ℕ, _+_, _-_, _*_}
 use Prim.Native.String.{String}
 use lib.Dec.{leb}
-use lib.IntN.{ℤ, pos, negℤ}
+use lib.IntN.{pos, negℤ}
 use lib.ListN.{length, replicate}
 use Rattle.lists.specs.Choice.{pick}
 use Rattle.lists.specs.Text.{bytes}
-use Rattle.coordinates.specs.Coordinates.{northSouth, coordinateOf, goodCoordinate, noCoordinate, signedOf}
+use Rattle.coordinates.specs.Coordinates.{northSouth, coordinateOf, noCoordinate, Valued}
 use Rattle.message.specs.Sample.{dayAndTime, sample, sampleText}
 use Rattle.message.specs.Words.{textOf}
 use Rattle.message.specs.declared.Record.{Record}
@@ -41,11 +40,6 @@ hex s = inPairs (bytes s)
 -- a date and time in minutes from 2000-01-01 0000Z
 abbrev pub minuteOf : ℕ → ℕ → ℕ → ℕ → ℕ → ℕ
 minuteOf year month day hour minute = (firstDay ((year - 2000) * 12 + (month - 1)) + (day - 1)) * 1440 + (hour * 60 + minute)
-
--- the word is a latitude, and has this signed value
-pub record Valued (word : String) (minutes : ℤ) : Type 0 where
-  pub good : goodCoordinate northSouth (coordinateOf northSouth (bytes word)) ≡ true
-  pub value : signedOf (coordinateOf northSouth (bytes word)) ≡ minutes
 
 -- the sample with VALID 290100/290500
 abbrev pub onTheTwentyNinth : Record
@@ -88,9 +82,9 @@ pub record Starred : Type 0 where
   pub intensity-twice : readOf (reporting "E OF E114 SFC/FL100 MOV E 20KT WKN NC=") ≡ refusal 12 130
   pub no-sign : readOf (reporting "E OF E114 SFC/FL100 MOV E 20KT WKN") ≡ refusal 3 129
   -- "N00 and S0000 both have value 0. S90 is -5,400; N9001 is refused."
-  pub north-0 : Valued "N00" (pos 0)
-  pub south-0 : Valued "S0000" (pos 0)
-  pub south-90 : Valued "S90" (negℤ (pos 5400))
+  pub north-0 : Valued northSouth "N00" (pos 0)
+  pub south-0 : Valued northSouth "S0000" (pos 0)
+  pub south-90 : Valued northSouth "S90" (negℤ (pos 5400))
   pub north-90-01 : coordinateOf northSouth (bytes "N9001") ≡ noCoordinate
   pub north-90-01-read : readOf (reporting "N OF N9001 SFC/FL100 MOV E 20KT WKN=") ≡ refusal 9 100
   -- "Clock 12,648,030 (2024-01-18 0830Z): start 12,648,030, end 12,648,270."; the sample is a WS, kind 2

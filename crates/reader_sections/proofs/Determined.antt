@@ -1,5 +1,4 @@
 -- The public contract of this crate determines its reply: two replies that it allows on the same text are equal.
--- Assumes nothing.
 use Rattle.lists.specs.Determined.{Determines}
 use Rattle.lists.proofs.Choice.{determined}
 use Rattle.reader_sections.proofs.read_text.Kinds as read-text-kinds

@@ -1,5 +1,4 @@
 -- What the machine does with the first word of a report and with the time of a forecast; and which words are a level, known by what the code looks at.
--- Assumes nothing.
 use mathlib.Core.Bool.{true, false, not}
 use mathlib.Core.List.{List, []}
 use mathlib.Core.Logic.{⊎-elim}

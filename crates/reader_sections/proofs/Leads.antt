@@ -1,5 +1,4 @@
 -- One word at a step, and one section after another: plain transitivity, for a refused step stays as it is.
--- Assumes nothing.
 use mathlib.Core.Bool.{Bool, true, false, not}
 use mathlib.Core.List.{List, [], _∷_}
 use mathlib.Core.Path.{_≡_, refl, ap, sym, _∙_}

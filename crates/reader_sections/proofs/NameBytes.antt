@@ -1,5 +1,4 @@
 -- Names: a word put into the bytes of a name, the first one and one more.
--- Assumes nothing.
 use mathlib.Core.Bool.{Bool, true, false}
 use mathlib.Core.List.{List, [], _∷_, _++_, append-assoc}
 use mathlib.Core.Path.{_≡_, ap, sym, _∙_}

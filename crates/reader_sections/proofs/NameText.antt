@@ -1,5 +1,4 @@
 -- Names: the states that take a name word by word, the word after it, and the reading of its words one after another.
--- Assumes nothing.
 use mathlib.Core.Bool.{Bool, true, false}
 use mathlib.Core.List.{List, _∷_}
 use mathlib.Core.Path.{_≡_, refl, ap, sym, _∙_}

@@ -1,5 +1,4 @@
 -- A choice by the code of the next word, for the sections that begin with one.
--- Assumes nothing.
 use mathlib.Core.Bool.{true}
 use mathlib.Core.List.{List}
 use mathlib.Core.Path.{_≡_}

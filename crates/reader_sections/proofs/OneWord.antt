@@ -1,5 +1,4 @@
 -- One word of a kind: what the code has found of it, said as an equation of runs.
--- Assumes nothing.
 use mathlib.Core.Bool.{Bool, true, false}
 use mathlib.Core.List.{List, [], _∷_}
 use mathlib.Core.Logic._⊎_.{inl, inr}

@@ -1,6 +1,5 @@
 -- The points of an outline, by how many there are and the first of them: what the code keeps says what the list says. Then one more point, as
 -- an equation of runs, and the loop over the points.
--- Assumes nothing.
 use mathlib.Core.Bool.{Bool, true, false, not}
 use mathlib.Core.List.{List, [], _∷_, _++_, append-assoc}
 use mathlib.Core.Path.{_≡_, refl, ap, sym, _∙_}

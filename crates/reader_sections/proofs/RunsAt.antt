@@ -1,5 +1,4 @@
 -- One step of a run from a place of the text: the word there moves the machine on, or is refused at its place.
--- Assumes nothing.
 use mathlib.Core.Bool.{Bool, true, false}
 use mathlib.Core.List.{List, [], _∷_}
 use mathlib.Core.Path.{_≡_, refl, ap, sym, _∙_}

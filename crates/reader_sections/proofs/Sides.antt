@@ -1,6 +1,5 @@
 -- One word of a location, in a report and in a forecast alike: what the location does with it is what the machine does. And the letter of a
 -- side, known by the word's code.
--- Assumes nothing.
 use mathlib.Core.Bool.{Bool, true, false, not}
 use mathlib.Core.List.{List, [], _∷_}
 use mathlib.Core.Path.{_≡_, refl, ap, sym, _∙_}

@@ -1,5 +1,4 @@
 -- The first words of a storm, which the code tells by the place of a word's code among theirs.
--- Assumes nothing.
 use mathlib.Core.Bool.{true, false}
 use mathlib.Core.List.{List, [], map}
 use mathlib.Core.Path.{_≡_, refl, ap, sym, _∙_}

@@ -1,5 +1,4 @@
 -- What the one field that the code looks at tells of a word's value, for each kind; and that the `=` is a word of no kind.
--- Assumes nothing.
 use mathlib.Core.Bool.{Bool, true, false}
 use mathlib.Core.List.{List, []}
 use mathlib.Core.Path.{_≡_, refl}

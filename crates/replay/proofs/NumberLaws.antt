@@ -1,5 +1,4 @@
 -- Numbers of a script: a value that stays where it is past the greatest number tells as much as the value itself.
--- Assumes nothing.
 use mathlib.Core.Bool.{Bool, true, false}
 use mathlib.Core.List.{List, [], _∷_}
 use mathlib.Core.Path.{_≡_, refl, sym, ap, subst, _∙_}

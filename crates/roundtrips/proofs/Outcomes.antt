@@ -1,5 +1,4 @@
 -- What follows from the two contracts of one outcome, for the theorems in `RoundTrips`.
--- Assumes nothing.
 use mathlib.Core.Bool.{true, false}
 use mathlib.Core.List.{List, _++_}
 use mathlib.Core.Logic.{_⊎_, inl, inr, _↔_}

@@ -1,6 +1,5 @@
 -- Demand 2, of the contracts of `read` and `write`: "Writing a good record and reading it gives that record; reading a canonical text and
 -- writing it gives the same bytes". `MayRead` and `MayWrite` stand for every outcome that the two contracts allow (`specs/Trips.antt`).
--- Assumes nothing.
 use mathlib.Core.Bool.{true, false}
 use mathlib.Core.List.{List, [], _++_}
 use mathlib.Core.Logic.{_⊎_, _↔_}

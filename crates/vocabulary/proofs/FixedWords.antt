@@ -1,5 +1,4 @@
 -- What each code is the code of. The words that are read or put by a table alone have their laws in the table's crate.
--- Assumes nothing.
 use mathlib.Core.Path.{refl}
 use Rattle.lists.specs.Base.{worthAfter}
 use Rattle.lists.specs.Lists.{allOf, same}

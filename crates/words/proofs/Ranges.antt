@@ -1,5 +1,4 @@
 -- What the test that a number lies between two others tells.
--- Assumes nothing.
 use mathlib.Core.Bool.{true}
 use mathlib.Core.Path.{_≡_}
 use Prim.Native.Nat.{ℕ, _≤_}

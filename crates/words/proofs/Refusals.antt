@@ -1,5 +1,4 @@
 -- The refusal table, numbers 1 to 3, one law to a line: what `checkOf` is where the facts of that line hold.
--- Assumes nothing.
 use mathlib.Core.Bool.{true, not}
 use mathlib.Core.List.{List, [], _∷_, _++_}
 use mathlib.Core.Path.{_≡_, refl, sym, _∙_}

@@ -1,6 +1,5 @@
 -- What a walk over bytes does at each place, in the shape of the loop's facts: its invariant says that what is still to be
 -- found from place i on is what is wanted.
--- Assumes nothing.
 use mathlib.Core.Bool.{Bool, true, false}
 use mathlib.Core.List.{List}
 use mathlib.Core.Path.{_≡_, sym, _∙_}

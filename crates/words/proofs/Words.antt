@@ -1,5 +1,4 @@
 -- The laws of words: what the next word is, what every word is, and that joining words and reading them undo one another.
--- Assumes nothing.
 use mathlib.Core.Bool.{Bool, true, false}
 use mathlib.Core.List.{List, [], _∷_, _++_, map, append-nil, append-assoc}
 use mathlib.Core.Path.{_≡_, refl, ap, sym, _∙_}

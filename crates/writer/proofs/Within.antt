@@ -1,5 +1,4 @@
 -- What is counted as written lies within the buffer, by the definition that `write`'s contract cites: a refusal counts 0, and otherwise the buffer begins with the text that is counted.
--- Assumes nothing.
 use mathlib.Core.Bool.{Bool, true, false, not}
 use mathlib.Core.List.{List}
 use mathlib.Core.Path.{_≡_, subst, sym}

@@ -1,5 +1,4 @@
 -- What `put_text` left on the page as the text, and one law for each reply.
--- Assumes nothing.
 use mathlib.Core.Bool.{true, false}
 use mathlib.Core.List.{List, [], _++_}
 use mathlib.Core.Path.{_≡_}

@@ -1,5 +1,4 @@
 -- A good record, and its parts for the sections that put them. Each is what a section asks, from what its caller knows, so that `search` finds it.
--- Assumes nothing.
 use mathlib.Core.Bool.{Bool, true, false, not}
 use mathlib.Core.List.{List}
 use mathlib.Core.Path.{_≡_, sym, _∙_}

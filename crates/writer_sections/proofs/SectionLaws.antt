@@ -1,6 +1,5 @@
 -- What the calls of a section have put are the words of its part of the record: one law for each return, whose premises are the facts that the
 -- code has there, so that `search` finds them.
--- Assumes nothing.
 use mathlib.Core.Bool.{Bool, true, false}
 use mathlib.Core.List.{List, [], _∷_, _++_, append-assoc, append-nil}
 use mathlib.Core.Path.{_≡_, refl, ap, sym, _∙_}

@@ -1,6 +1,5 @@
 -- Texts and words that are put one behind the other, in the shape in which `search` finds them: from what a section has to put to the calls that
 -- put it, in their order.
--- Assumes nothing.
 use mathlib.Core.List.{List, [], _∷_, _++_}
 use mathlib.Core.Path.{_≡_}
 use Prim.Native.Nat.{ℕ}

@@ -1,5 +1,4 @@
 -- Numbers and the words of tables: a number that is in no table, and a stretch of numbers that have one word.
--- Assumes nothing.
 use mathlib.Core.Bool.{Bool, true}
 use mathlib.Core.List.{List, []}
 use mathlib.Core.Logic.{_⊎_, inl, inr}

@@ -1,4 +1,4 @@
--- `end_of` meets its contract: its stretch is the definition's own. Assumes nothing.
+-- `end_of` meets its contract: its stretch is the definition's own.
 use borrow.Author.Needs.{needs}
 use Rattle.calendar.specs.Instants.{endOf}
 use Rattle.calendar.proofs.end_of.Statement.{statement}

@@ -1,4 +1,4 @@
--- `instant_in` meets its contract: the first of three days that has one, in the definition's order. Assumes nothing.
+-- `instant_in` meets its contract: the first of three days that has one, in the definition's order.
 use borrow.Author.Needs.{needs}
 use Rattle.calendar.proofs.DayLaws.{in-first, in-second, in-third}
 use Rattle.calendar.proofs.instant_in.Statement.{statement}

@@ -1,4 +1,4 @@
--- `limit_of` meets its contract: its test is the definition's own. Assumes nothing.
+-- `limit_of` meets its contract: its test is the definition's own.
 use borrow.Author.Tests.{eq-eqb, ne-eqb}
 use Rattle.calendar.proofs.limit_of.Statement.{statement}
 use Rattle.calendar.proofs.limit_of.Tie as tie

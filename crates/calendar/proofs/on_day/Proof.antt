@@ -1,4 +1,4 @@
--- `on_day` meets its contract: each way out is a reason why the day has no such instant, or the instant. Assumes nothing.
+-- `on_day` meets its contract: each way out is a reason why the day has no such instant, or the instant.
 use native.Mathlib.Omega.{arith}
 use borrow.Author.Needs.{needs}
 use Rattle.calendar.proofs.DayLaws.{none-beyond, none-hour, none-minute, none-before, none-after, none-date, one-there}

@@ -1,4 +1,4 @@
--- `start_of` meets its contract: its stretch is the definition's own. Assumes nothing.
+-- `start_of` meets its contract: its stretch is the definition's own.
 use borrow.Author.Needs.{needs}
 use Rattle.calendar.specs.Instants.{startOf}
 use Rattle.calendar.proofs.start_of.Statement.{statement}

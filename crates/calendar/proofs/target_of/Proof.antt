@@ -1,4 +1,4 @@
--- `target_of` meets its contract: its stretch is the definition's own. Assumes nothing.
+-- `target_of` meets its contract: its stretch is the definition's own.
 use borrow.Author.Needs.{needs}
 use Rattle.calendar.specs.Instants.{targetOf}
 use Rattle.calendar.proofs.target_of.Statement.{statement}

@@ -1,4 +1,4 @@
--- `apart_by` meets its contract: the difference is that of the two signed values, and its size is taken by its sign. Assumes nothing.
+-- `apart_by` meets its contract: the difference is that of the two signed values, and its size is taken by its sign.
 use borrow.Author.Needs.{needs}
 use mathlib.Core.Path.{_≡_}
 use Prim.Native.Nat.{_<_, _^_}

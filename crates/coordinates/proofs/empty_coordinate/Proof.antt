@@ -1,4 +1,4 @@
--- `empty_coordinate` meets its contract, test by test. Assumes nothing.
+-- `empty_coordinate` meets its contract, test by test.
 use borrow.Author.Needs.{needs}
 use Rattle.coordinates.specs.Coordinates.{emptyCoordinate}
 use Rattle.coordinates.proofs.empty_coordinate.Statement.{statement}

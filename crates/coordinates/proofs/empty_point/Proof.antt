@@ -1,4 +1,4 @@
--- `empty_point` meets its contract, by those of its two coordinates. Assumes nothing.
+-- `empty_point` meets its contract, by those of its two coordinates.
 use borrow.Author.Needs.{needs}
 use Rattle.coordinates.specs.Points.{emptyPoint}
 use Rattle.coordinates.proofs.empty_point.Statement.{statement}

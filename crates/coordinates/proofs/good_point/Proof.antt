@@ -1,4 +1,4 @@
--- `good_point` meets its contract, by those of its two coordinates. Assumes nothing.
+-- `good_point` meets its contract, by those of its two coordinates.
 use borrow.Author.Needs.{needs}
 use Rattle.coordinates.specs.Points.{goodPoint}
 use Rattle.coordinates.proofs.good_point.Statement.{statement}

@@ -1,4 +1,4 @@
--- `latitude` meets its contract, which is that of `axis::coordinate` on its axis. Assumes nothing.
+-- `latitude` meets its contract, which is that of `axis::coordinate` on its axis.
 use borrow.Author.Needs.{needs}
 use Rattle.coordinates.proofs.latitude.Statement.{statement}
 use Rattle.coordinates.proofs.latitude.Tie as tie

@@ -1,4 +1,4 @@
--- `longitude` meets its contract, which is that of `axis::coordinate` on its axis. Assumes nothing.
+-- `longitude` meets its contract, which is that of `axis::coordinate` on its axis.
 use borrow.Author.Needs.{needs}
 use Rattle.coordinates.proofs.longitude.Statement.{statement}
 use Rattle.coordinates.proofs.longitude.Tie as tie

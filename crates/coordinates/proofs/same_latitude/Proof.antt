@@ -1,4 +1,4 @@
--- `same_latitude` meets its contract: the distance is `apart_by`'s. Assumes nothing.
+-- `same_latitude` meets its contract: the distance is `apart_by`'s.
 use borrow.Author.Needs.{needs}
 use Rattle.coordinates.proofs.same_latitude.Statement.{statement}
 use Rattle.coordinates.proofs.same_latitude.Tie as tie

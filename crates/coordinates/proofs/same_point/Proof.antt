@@ -1,4 +1,4 @@
--- `same_point` meets its contract, test by test; the distances are `apart_by`'s. Assumes nothing.
+-- `same_point` meets its contract, test by test; the distances are `apart_by`'s.
 use borrow.Author.Needs.{needs}
 use Rattle.coordinates.specs.Points.{samePoint}
 use Rattle.coordinates.proofs.same_point.Statement.{statement}

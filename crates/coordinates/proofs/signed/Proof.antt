@@ -1,4 +1,4 @@
--- `signed` meets its contract: by the letter, the size or its negative, which 32 bits hold. Assumes nothing.
+-- `signed` meets its contract: by the letter, the size or its negative, which 32 bits hold.
 use borrow.Author.Needs.{needs}
 use Prim.Native.Nat.{_+_, _*_}
 use native.Mathlib.Omega.{arith}

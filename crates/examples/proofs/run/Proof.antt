@@ -1,4 +1,4 @@
--- `run` comes to the end of the table: each line begins past the one before it. Assumes nothing.
+-- `run` comes to the end of the table: each line begins past the one before it.
 use Prim.Native.Nat.{_-_}
 use native.Mathlib.Omega.{arith}
 use borrow.Author.Needs.{needs}

@@ -1,4 +1,4 @@
--- `code` meets its contract: every byte fits its type, so the loop reads them all. Assumes nothing.
+-- `code` meets its contract: every byte fits its type, so the loop reads them all.
 use mathlib.Core.Path.{refl}
 use Prim.Native.Nat.{_-_, _<_}
 use native.Mathlib.Omega.{arith}

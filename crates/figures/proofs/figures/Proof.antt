@@ -1,4 +1,4 @@
--- `figures` meets its contract: the loop keeps what the figures still to be read add to the number. Assumes nothing.
+-- `figures` meets its contract: the loop keeps what the figures still to be read add to the number.
 use mathlib.Core.Bool.{true}
 use mathlib.Core.List.{map}
 use mathlib.Core.Path.{_≡_, sym, _∙_}

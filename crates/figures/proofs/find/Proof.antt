@@ -1,4 +1,4 @@
--- `find` meets its contract: the loop keeps what is still to be found. Assumes nothing.
+-- `find` meets its contract: the loop keeps what is still to be found.
 use mathlib.Core.Path.{_≡_, sym, _∙_}
 use Prim.Native.Nat.{_-_}
 use native.Mathlib.Omega.{arith}

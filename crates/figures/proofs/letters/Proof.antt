@@ -1,4 +1,4 @@
--- `letters` meets its contract: the loop keeps what the letters still to be read add to the number. Assumes nothing.
+-- `letters` meets its contract: the loop keeps what the letters still to be read add to the number.
 use mathlib.Core.Bool.{true}
 use mathlib.Core.Path.{_≡_, refl, sym, _∙_}
 use Prim.Native.Nat.{_-_, _<_}

@@ -1,4 +1,4 @@
--- `two` meets its contract: its two ways are the two ways of `capped`. Assumes nothing.
+-- `two` meets its contract: its two ways are the two ways of `capped`.
 use borrow.Author.Needs.{needs}
 use native.Mathlib.Omega.{arith}
 use Rattle.figures.proofs.FigureLaws.{capped-below, capped-past}

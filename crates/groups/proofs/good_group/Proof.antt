@@ -1,4 +1,4 @@
--- `good_group` meets its contract: its tests are the definition's own. Assumes nothing.
+-- `good_group` meets its contract: its tests are the definition's own.
 use borrow.Author.Needs.{needs}
 use Rattle.groups.specs.Groups.{goodGroup}
 use Rattle.groups.proofs.good_group.Statement.{statement}

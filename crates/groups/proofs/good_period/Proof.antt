@@ -1,4 +1,4 @@
--- `good_period` meets its contract: it is the test of both groups. Assumes nothing.
+-- `good_period` meets its contract: it is the test of both groups.
 use borrow.Author.Needs.{needs}
 use Rattle.groups.specs.Groups.{goodPeriod}
 use Rattle.groups.proofs.good_period.Statement.{statement}

@@ -1,4 +1,4 @@
--- `good_time` meets its contract: it is the clock's test. Assumes nothing.
+-- `good_time` meets its contract: it is the clock's test.
 use borrow.Author.Needs.{needs}
 use Rattle.groups.specs.Groups.{goodTime}
 use Rattle.groups.proofs.good_time.Statement.{statement}

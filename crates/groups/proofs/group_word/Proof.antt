@@ -1,4 +1,4 @@
--- `group_word` meets its contract: each way out is one of `ifGood`'s, and the values read are the parts' figures. Assumes nothing.
+-- `group_word` meets its contract: each way out is one of `ifGood`'s, and the values read are the parts' figures.
 use borrow.Author.Needs.{needs}
 use borrow.Author.Tests.{eq-eqb, ne-eqb}
 use Rattle.groups.specs.Groups.{groupOf, goodGroup, noGroup}

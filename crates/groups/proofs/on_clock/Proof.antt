@@ -1,4 +1,4 @@
--- `on_clock` meets its contract: it is the definition's own test. Assumes nothing.
+-- `on_clock` meets its contract: it is the definition's own test.
 use borrow.Author.Needs.{needs}
 use Rattle.groups.proofs.on_clock.Statement.{statement}
 use Rattle.groups.proofs.on_clock.Tie as tie

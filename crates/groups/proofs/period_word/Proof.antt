@@ -1,4 +1,4 @@
--- `period_word` meets its contract: each way out is one of `ifGood`'s, and the values read are the parts' groups. Assumes nothing.
+-- `period_word` meets its contract: each way out is one of `ifGood`'s, and the values read are the parts' groups.
 use lib.Dec.{eqb}
 use lib.ListN.{length}
 use borrow.Author.Needs.{needs}

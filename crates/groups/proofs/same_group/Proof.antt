@@ -1,4 +1,4 @@
--- `same_group` meets its contract: its tests are the definition's own. Assumes nothing.
+-- `same_group` meets its contract: its tests are the definition's own.
 use borrow.Author.Needs.{needs}
 use Rattle.groups.proofs.same_group.Statement.{statement}
 use Rattle.groups.proofs.same_group.Tie as tie

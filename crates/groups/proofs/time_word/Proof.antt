@@ -1,4 +1,4 @@
--- `time_word` meets its contract: each way out is one of `ifGood`'s, and the values read are the parts' figures. Assumes nothing.
+-- `time_word` meets its contract: each way out is one of `ifGood`'s, and the values read are the parts' figures.
 use lib.Dec.{eqb}
 use lib.ListN.{length}
 use borrow.Author.Needs.{needs}

@@ -1,4 +1,4 @@
--- `correction_word` meets its contract: its tests are those of the definition, one by one. Assumes nothing.
+-- `correction_word` meets its contract: its tests are those of the definition, one by one.
 use mathlib.Core.Path.{refl}
 use native.Mathlib.Omega.{arith}
 use lib.ListN.{length, getD}

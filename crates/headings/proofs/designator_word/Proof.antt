@@ -1,4 +1,4 @@
--- `designator_word` meets its contract: its parts are read as the definition reads them. Assumes nothing.
+-- `designator_word` meets its contract: its parts are read as the definition reads them.
 use native.Mathlib.Omega.{arith}
 use lib.ListN.{length}
 use borrow.Author.Tests.{eq-eqb}

@@ -1,4 +1,4 @@
--- `four_letters` meets its contract: every number of 32 bits has no more than four places. Assumes nothing.
+-- `four_letters` meets its contract: every number of 32 bits has no more than four places.
 use native.Mathlib.Omega.{arith}
 use borrow.Author.Needs.{needs}
 use Rattle.headings.proofs.HeadingLaws.{four-good}

@@ -1,4 +1,4 @@
--- `good_correction` meets its contract: it is the definition's own test. Assumes nothing.
+-- `good_correction` meets its contract: it is the definition's own test.
 use borrow.Author.Needs.{needs}
 use Rattle.headings.specs.Headings.{goodCorrection}
 use Rattle.headings.proofs.good_correction.Statement.{statement}

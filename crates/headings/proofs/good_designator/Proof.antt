@@ -1,4 +1,4 @@
--- `good_designator` meets its contract: it is the definition's own test. Assumes nothing.
+-- `good_designator` meets its contract: it is the definition's own test.
 use borrow.Author.Needs.{needs}
 use Rattle.headings.specs.Headings.{goodDesignator, typeWords}
 use Rattle.headings.proofs.good_designator.Statement.{statement}

@@ -1,4 +1,4 @@
--- `good_sequence` meets its contract: where the number of digits is out of range it is false both ways. Assumes nothing.
+-- `good_sequence` meets its contract: where the number of digits is out of range it is false both ways.
 use borrow.Author.Needs.{needs}
 use Rattle.headings.proofs.SequenceLaws.{sequence-good}
 use Rattle.headings.proofs.good_sequence.Statement.{statement}

@@ -1,4 +1,4 @@
--- `kind_of` meets its contract: a code tells the type, or that the word is no type. Assumes nothing.
+-- `kind_of` meets its contract: a code tells the type, or that the word is no type.
 use mathlib.Core.Path.{sym, _∙_}
 use lib.Dec.{lit<}
 use borrow.Author.Needs.{needs}

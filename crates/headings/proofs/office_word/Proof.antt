@@ -1,4 +1,4 @@
--- `office_word` meets its contract: its tests are those of the definition, one by one. Assumes nothing.
+-- `office_word` meets its contract: its tests are those of the definition, one by one.
 use native.Mathlib.Omega.{arith}
 use lib.ListN.{length, getD}
 use borrow.Author.Tests.{eq-eqb, ne-eqb}

@@ -1,4 +1,4 @@
--- `sequence_word` meets its contract: a letter in front decides which of the two forms is read. Assumes nothing.
+-- `sequence_word` meets its contract: a letter in front decides which of the two forms is read.
 use mathlib.Core.Path.{sym, _∙_}
 use native.Mathlib.Omega.{arith}
 use lib.ListN.{length}

@@ -1,4 +1,4 @@
--- `ten_to` meets its contract: each arm is a power of ten. Assumes nothing.
+-- `ten_to` meets its contract: each arm is a power of ten.
 use Rattle.headings.proofs.SequenceLaws.{ten-none}
 use Rattle.headings.proofs.ten_to.Statement.{statement}
 use Rattle.headings.proofs.ten_to.Tie as tie

@@ -1,4 +1,4 @@
--- `two_letters` meets its contract: it tests the two places one by one. Assumes nothing.
+-- `two_letters` meets its contract: it tests the two places one by one.
 use borrow.Author.Needs.{needs}
 use Rattle.headings.proofs.HeadingLaws.{two-good}
 use Rattle.headings.proofs.two_letters.Statement.{statement}

@@ -1,4 +1,4 @@
--- `band_nine` meets its contract: its tests are those of the definition. Assumes nothing.
+-- `band_nine` meets its contract: its tests are those of the definition.
 use mathlib.Core.Bool.{true}
 use mathlib.Core.Path.{_≡_}
 use borrow.Author.Tests.{eq-eqb, ne-eqb}

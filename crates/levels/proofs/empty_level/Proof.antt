@@ -1,4 +1,4 @@
--- `empty_level` meets its contract: a level whose tag is not the first one's is not empty. Assumes nothing.
+-- `empty_level` meets its contract: a level whose tag is not the first one's is not empty.
 use mathlib.Core.Bool.{false}
 use mathlib.Core.Path.{_≡_, refl, ap, sym}
 use mathlib.Core.List.{List, [], _∷_}

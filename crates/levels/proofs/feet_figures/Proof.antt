@@ -1,4 +1,4 @@
--- `feet_figures` meets its contract. Assumes nothing.
+-- `feet_figures` meets its contract.
 use native.Mathlib.Omega.{arith}
 use borrow.Author.Tests.{lt-ltb, le-ltb}
 use Rattle.levels.proofs.feet_figures.Statement.{statement}

@@ -1,4 +1,4 @@
--- `five_bytes` meets its contract: its tests are those of the definition. Assumes nothing.
+-- `five_bytes` meets its contract: its tests are those of the definition.
 use mathlib.Core.Bool.{true}
 use mathlib.Core.Path.{_≡_}
 use borrow.Author.Needs.{needs}

@@ -1,4 +1,4 @@
--- `good_band` meets its contract: it is the definition's own test. Assumes nothing.
+-- `good_band` meets its contract: it is the definition's own test.
 use borrow.Author.Needs.{needs}
 use Rattle.levels.proofs.good_band.Statement.{statement}
 use Rattle.levels.proofs.good_band.Tie as tie

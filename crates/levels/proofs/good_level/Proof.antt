@@ -1,4 +1,4 @@
--- `good_level` meets its contract: each form has the test of the definition. Assumes nothing.
+-- `good_level` meets its contract: each form has the test of the definition.
 use mathlib.Core.Path.{ap, sym, _∙_}
 use borrow.Author.Needs.{needs}
 use Rattle.levels.specs.Levels.{goodLevel, goodLevelWord}

@@ -1,4 +1,4 @@
--- `level_word` meets its contract: it goes by the length as the definition does. Assumes nothing.
+-- `level_word` meets its contract: it goes by the length as the definition does.
 use borrow.Author.Tests.{eq-eqb, ne-eqb, le-leb, lt-leb}
 use borrow.Author.Needs.{needs}
 use Rattle.levels.specs.Levels.{levelOf}

@@ -1,4 +1,4 @@
--- `nine_bytes` meets its contract: its test is that of the definition. Assumes nothing.
+-- `nine_bytes` meets its contract: its test is that of the definition.
 use borrow.Author.Needs.{needs}
 use Rattle.figures.proofs.CodeLaws.{same-yes, same-no}
 use Rattle.vocabulary.proofs.FixedWords.{fixed-surface}

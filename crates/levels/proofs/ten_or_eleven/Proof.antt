@@ -1,4 +1,4 @@
--- `ten_or_eleven` meets its contract: its tests are those of the definition. Assumes nothing.
+-- `ten_or_eleven` meets its contract: its tests are those of the definition.
 use mathlib.Core.Bool.{true, false}
 use mathlib.Core.Path.{_≡_, ap, _∙_}
 use Prim.Native.Nat.{_-_}

@@ -1,4 +1,4 @@
--- `correction_byte` meets its contract: none is a space. Assumes nothing.
+-- `correction_byte` meets its contract: none is a space.
 use borrow.Author.Tests.{eq-eqb, ne-eqb}
 use Rattle.listing.proofs.correction_byte.Statement.{statement}
 use Rattle.listing.proofs.correction_byte.Tie as tie

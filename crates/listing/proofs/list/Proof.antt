@@ -1,4 +1,4 @@
--- `list` meets its contract: one law for each reply, on the rows that were found. Assumes nothing.
+-- `list` meets its contract: one law for each reply, on the rows that were found.
 use borrow.Author.Needs.{needs}
 use Rattle.listing.proofs.ListLaws.{board-refused, no-room, all-listed}
 use Rattle.listing.proofs.list.Statement.{statement}

@@ -1,4 +1,4 @@
--- `put_listing` meets its contract: the records so far are on the page, and the next goes into the rest of it. Assumes nothing.
+-- `put_listing` meets its contract: the records so far are on the page, and the next goes into the rest of it.
 use mathlib.Core.Path.{_≡_, refl, subst, _∙_}
 use Prim.Native.Nat.{ℕ, _+_, _-_, _*_, _≤_}
 use native.Mathlib.Omega.{arith}

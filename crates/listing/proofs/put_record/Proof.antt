@@ -1,4 +1,4 @@
--- `put_record` meets its contract: the parts of the record, one behind the other. Assumes nothing.
+-- `put_record` meets its contract: the parts of the record, one behind the other.
 use borrow.Author.Needs.{needs}
 use Rattle.pens.proofs.PenLaws.{then, put-alike}
 use Rattle.listing.specs.Listings.{messageRecord}

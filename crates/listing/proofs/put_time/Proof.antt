@@ -1,4 +1,4 @@
--- `put_time` meets its contract: its kind, and the time behind it. Assumes nothing.
+-- `put_time` meets its contract: its kind, and the time behind it.
 use borrow.Author.Needs.{needs}
 use Rattle.pens.proofs.PenLaws.{then}
 use Rattle.listing.specs.Listings.{timeRecord}

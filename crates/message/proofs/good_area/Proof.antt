@@ -1,4 +1,4 @@
--- `good_area` meets its contract. Assumes nothing.
+-- `good_area` meets its contract.
 use borrow.Author.Needs.{needs}
 use Rattle.names.specs.Names.{closingWords}
 use Rattle.message.specs.Records.{goodArea}

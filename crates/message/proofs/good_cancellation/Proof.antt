@@ -1,4 +1,4 @@
--- `good_cancellation` meets its contract. Assumes nothing.
+-- `good_cancellation` meets its contract.
 use borrow.Author.Needs.{needs}
 use Rattle.message.proofs.good_cancellation.Statement.{statement}
 use Rattle.message.proofs.good_cancellation.Tie as tie

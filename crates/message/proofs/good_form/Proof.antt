@@ -1,4 +1,4 @@
--- `good_form` meets its contract. Assumes nothing.
+-- `good_form` meets its contract.
 use borrow.Author.Needs.{needs}
 use Rattle.message.specs.Records.{goodForm}
 use Rattle.message.proofs.good_form.Statement.{statement}

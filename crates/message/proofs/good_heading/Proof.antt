@@ -1,4 +1,4 @@
--- `good_heading` meets its contract. Assumes nothing.
+-- `good_heading` meets its contract.
 use borrow.Author.Needs.{needs}
 use Rattle.message.specs.Records.{goodHeading}
 use Rattle.message.proofs.good_heading.Statement.{statement}

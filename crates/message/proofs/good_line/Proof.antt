@@ -1,4 +1,4 @@
--- `good_line` meets its contract. Assumes nothing.
+-- `good_line` meets its contract.
 use borrow.Author.Needs.{needs}
 use Rattle.message.specs.Records.{goodLine}
 use Rattle.message.proofs.good_line.Statement.{statement}

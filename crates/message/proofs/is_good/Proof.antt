@@ -1,4 +1,4 @@
--- `is_good` meets its contract. Assumes nothing.
+-- `is_good` meets its contract.
 use borrow.Author.Needs.{needs}
 use Rattle.message.specs.Records.{good}
 use Rattle.message.proofs.is_good.Statement.{statement}

@@ -1,4 +1,4 @@
--- `names_itself` meets its contract. Assumes nothing.
+-- `names_itself` meets its contract.
 use borrow.Author.Needs.{needs}
 use Rattle.message.specs.Records.{namesItself}
 use Rattle.message.proofs.names_itself.Statement.{statement}

@@ -1,4 +1,4 @@
--- `same_sequence` meets its contract. Assumes nothing.
+-- `same_sequence` meets its contract.
 use borrow.Author.Needs.{needs}
 use Rattle.message.proofs.same_sequence.Statement.{statement}
 use Rattle.message.proofs.same_sequence.Tie as tie

@@ -1,4 +1,4 @@
--- `compass_word` meets its contract: its table holds the codes of the sixteen words, in their order. Assumes nothing.
+-- `compass_word` meets its contract: its table holds the codes of the sixteen words, in their order.
 use mathlib.Core.Path.{refl}
 use Prim.Native.Nat.{_≤_}
 use native.Mathlib.Omega.{arith}

@@ -1,4 +1,4 @@
--- `good_speed` meets its contract: it is the definition's own test. Assumes nothing.
+-- `good_speed` meets its contract: it is the definition's own test.
 use borrow.Author.Needs.{needs}
 use Rattle.motions.specs.Speeds.{goodSpeed, unitWords}
 use Rattle.motions.proofs.good_speed.Statement.{statement}

@@ -1,4 +1,4 @@
--- `intensity_word` meets its contract: a code tells the intensity, or that the word is none. Assumes nothing.
+-- `intensity_word` meets its contract: a code tells the intensity, or that the word is none.
 use mathlib.Core.Path.{sym, _∙_}
 use lib.Dec.{lit<}
 use borrow.Author.Needs.{needs}

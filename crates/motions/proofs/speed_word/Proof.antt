@@ -1,4 +1,4 @@
--- `speed_word` meets its contract: a word of fewer than two bytes has no unit, and so is no speed. Assumes nothing.
+-- `speed_word` meets its contract: a word of fewer than two bytes has no unit, and so is no speed.
 use mathlib.Core.Bool.{true}
 use mathlib.Core.Path.{refl}
 use native.Mathlib.Omega.{arith}

@@ -1,4 +1,4 @@
--- `unit_of` meets its contract: a code tells the unit, or that the word is none. Assumes nothing.
+-- `unit_of` meets its contract: a code tells the unit, or that the word is none.
 use mathlib.Core.Path.{sym, _∙_}
 use lib.Dec.{lit<}
 use borrow.Author.Needs.{needs}

@@ -1,4 +1,4 @@
--- `all_name_bytes` meets its contract: the loop keeps what is still to be tested. Assumes nothing.
+-- `all_name_bytes` meets its contract: the loop keeps what is still to be tested.
 use mathlib.Core.Path.{_≡_, refl, sym, _∙_}
 use Prim.Native.Nat.{_-_}
 use native.Mathlib.Omega.{arith}

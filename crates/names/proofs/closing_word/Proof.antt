@@ -1,4 +1,4 @@
--- `closing_word` meets its contract: a word's code tells its number in the table. Assumes nothing.
+-- `closing_word` meets its contract: a word's code tells its number in the table.
 use mathlib.Core.Bool.{false}
 use mathlib.Core.List.{List}
 use mathlib.Core.Path.{_≡_, refl, sym, _∙_}

@@ -1,4 +1,4 @@
--- `first_space` meets its contract: the loop keeps what is still to be found. Assumes nothing.
+-- `first_space` meets its contract: the loop keeps what is still to be found.
 use mathlib.Core.Path.{_≡_, refl, sym, _∙_}
 use Prim.Native.Nat.{_-_}
 use native.Mathlib.Omega.{arith}

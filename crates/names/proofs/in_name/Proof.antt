@@ -1,4 +1,4 @@
--- `in_name` meets its contract: a code or a number tells a closing word. Assumes nothing.
+-- `in_name` meets its contract: a code or a number tells a closing word.
 use borrow.Author.Needs.{needs}
 use Rattle.names.proofs.NameLaws.{area-word, mountain-word}
 use Rattle.names.proofs.in_name.Statement.{statement}

@@ -1,4 +1,4 @@
--- `name_text` meets its contract: the loop keeps what is still to be tested. Assumes nothing.
+-- `name_text` meets its contract: the loop keeps what is still to be tested.
 use mathlib.Core.Path.{sym, _∙_}
 use Prim.Native.Nat.{_-_}
 use native.Mathlib.Omega.{arith}

@@ -1,4 +1,4 @@
--- `name_word` meets its contract, test by test. Assumes nothing.
+-- `name_word` meets its contract, test by test.
 use native.Mathlib.Omega.{arith}
 use lib.ListN.{length}
 use borrow.Author.Needs.{needs}

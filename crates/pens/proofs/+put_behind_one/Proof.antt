@@ -1,5 +1,4 @@
 -- `put_behind_one` meets its contract: the last byte goes behind those of code / 256, as in the definition. The measure is k.
--- Assumes nothing.
 use Prim.Native.Nat.{ℕ, _<_}
 use native.Mathlib.Nat.{pos-of-ne-zero, mod-lt}
 use native.Mathlib.Omega.{arith}

@@ -1,5 +1,4 @@
 -- `put_places` meets its contract: the last place goes behind those of n / base, as in the definition of the places. The measure is k.
--- Assumes nothing.
 use Prim.Native.Nat.{ℕ, _<_}
 use native.Mathlib.Nat.{pos-of-ne-zero, mod-lt}
 use native.Mathlib.Omega.{arith}

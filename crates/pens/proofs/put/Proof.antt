@@ -1,4 +1,4 @@
--- `put` meets its contract: a byte with room goes in where the pen stands, and one without stays out. Assumes nothing.
+-- `put` meets its contract: a byte with room goes in where the pen stands, and one without stays out.
 use borrow.Author.Needs.{needs}
 use Rattle.pens.proofs.PenLaws.{byte-put, byte-stopped}
 use Rattle.pens.proofs.put.Statement.{statement}

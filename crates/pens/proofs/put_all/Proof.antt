@@ -1,4 +1,4 @@
--- `put_all` meets its contract: behind the bytes that were put so far comes the next. Assumes nothing.
+-- `put_all` meets its contract: behind the bytes that were put so far comes the next.
 use mathlib.Core.Path.{_≡_, refl}
 use Prim.Native.Nat.{_-_, _≤_, zero-le}
 use lib.ListN.{length, take}

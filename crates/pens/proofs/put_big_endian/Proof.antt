@@ -1,4 +1,4 @@
--- `put_big_endian` meets its contract: the bytes are the places of the number, counted from 0. Assumes nothing.
+-- `put_big_endian` meets its contract: the bytes are the places of the number, counted from 0.
 use borrow.Author.Needs.{needs}
 use Rattle.pens.proofs.PenLaws.{unshifted}
 use Rattle.pens.proofs.put_big_endian.Statement.{statement}

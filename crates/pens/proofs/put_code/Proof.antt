@@ -1,4 +1,4 @@
--- `put_code` meets its contract. Assumes nothing.
+-- `put_code` meets its contract.
 use borrow.Author.Needs.{needs}
 use Rattle.pens.proofs.put_code.Statement.{statement}
 use Rattle.pens.proofs.put_code.Tie as tie

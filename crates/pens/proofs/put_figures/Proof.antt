@@ -1,4 +1,4 @@
--- `put_figures` meets its contract: figures are the places of their number in base 10, counted from `0`. Assumes nothing.
+-- `put_figures` meets its contract: figures are the places of their number in base 10, counted from `0`.
 use borrow.Author.Needs.{needs}
 use Rattle.pens.proofs.put_figures.Statement.{statement}
 use Rattle.pens.proofs.put_figures.Tie as tie

@@ -1,4 +1,4 @@
--- `put_fixed` meets its contract: the bytes go on from the space. Assumes nothing.
+-- `put_fixed` meets its contract: the bytes go on from the space.
 use borrow.Author.Needs.{needs}
 use Rattle.pens.proofs.PenLaws.{a-space, goes-on}
 use Rattle.pens.proofs.put_fixed.Statement.{statement}

@@ -1,4 +1,4 @@
--- `put_word` meets its contract: the word goes on from the space. Assumes nothing.
+-- `put_word` meets its contract: the word goes on from the space.
 use borrow.Author.Needs.{needs}
 use Rattle.pens.proofs.PenLaws.{a-space, goes-on}
 use Rattle.pens.proofs.put_word.Statement.{statement}

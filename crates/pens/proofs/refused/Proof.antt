@@ -1,4 +1,4 @@
--- `refused` meets its contract: the number given, and no byte counted. Assumes nothing.
+-- `refused` meets its contract: the number given, and no byte counted.
 use mathlib.Core.Path.{refl}
 use Rattle.pens.proofs.refused.Statement.{statement}
 use Rattle.pens.proofs.refused.Tie as tie

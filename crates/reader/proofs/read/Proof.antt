@@ -1,4 +1,4 @@
--- `read` meets its contract: `check` refuses by numbers 1 to 3, and else the words before the `=` are read. Assumes nothing.
+-- `read` meets its contract: `check` refuses by numbers 1 to 3, and else the words before the `=` are read.
 use borrow.Author.Needs.{needs}
 use mathlib.Core.Path.{sym}
 use borrow.Author.Tests.{eq-eqb, ne-eqb}

@@ -1,4 +1,4 @@
--- `read_text` meets its contract: opening and body are one run, and its reply is the reply. Assumes nothing.
+-- `read_text` meets its contract: opening and body are one run, and its reply is the reply.
 use borrow.Author.Needs.{needs}
 use mathlib.Core.List.{List}
 use mathlib.Core.Path.{_≡_, refl, sym, _∙_}

@@ -1,4 +1,4 @@
--- `list_step` lends as many bytes as the command says, at most 2,000, and goes on behind it. Assumes nothing.
+-- `list_step` lends as many bytes as the command says, at most 2,000, and goes on behind it.
 use Rattle.io.proofs.Counting.{front}
 use native.Mathlib.Omega.{arith}
 use borrow.Author.Needs.{needs}

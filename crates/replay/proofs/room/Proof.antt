@@ -1,4 +1,4 @@
--- `room` has the length that its type says. Assumes nothing.
+-- `room` has the length that its type says.
 use mathlib.Core.Path.{sym}
 use Prim.Native.Nat.{ℕ}
 use lib.ListN.{length-replicate}

@@ -1,4 +1,4 @@
--- `run` comes to the end of the script: each command ends past where it begins. Assumes nothing.
+-- `run` comes to the end of the script: each command ends past where it begins.
 use Prim.Native.Nat.{_-_, _≤_}
 use native.Mathlib.Omega.{arith}
 use borrow.Author.Needs.{needs}

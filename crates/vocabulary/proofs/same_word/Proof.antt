@@ -1,4 +1,4 @@
--- `same_word` meets its contract: the loop keeps what is still to be compared. Assumes nothing.
+-- `same_word` meets its contract: the loop keeps what is still to be compared.
 use Prim.Native.Nat.{_-_}
 use native.Mathlib.Omega.{arith}
 use lib.ListN.{length}

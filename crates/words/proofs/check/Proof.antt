@@ -1,4 +1,4 @@
--- `check` meets its contract: each return is one line of the refusal table. Assumes nothing.
+-- `check` meets its contract: each return is one line of the refusal table.
 use native.Mathlib.Omega.{arith}
 use borrow.Author.Needs.{needs}
 use Rattle.lists.proofs.Lists.{index-within}

@@ -1,4 +1,4 @@
--- `is_digit` meets its contract: it is the definition's own test. Assumes nothing.
+-- `is_digit` meets its contract: it is the definition's own test.
 use borrow.Author.Needs.{needs}
 use Rattle.words.proofs.is_digit.Statement.{statement}
 use Rattle.words.proofs.is_digit.Tie as tie

@@ -1,4 +1,4 @@
--- `is_letter` meets its contract: it is the definition's own test. Assumes nothing.
+-- `is_letter` meets its contract: it is the definition's own test.
 use borrow.Author.Needs.{needs}
 use Rattle.words.proofs.is_letter.Statement.{statement}
 use Rattle.words.proofs.is_letter.Tie as tie

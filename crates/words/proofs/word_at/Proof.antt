@@ -1,4 +1,4 @@
--- `word_at` meets its contract: its two walks are the two places of the definition. Assumes nothing.
+-- `word_at` meets its contract: its two walks are the two places of the definition.
 use borrow.Author.Needs.{needs}
 use Rattle.words.specs.Words.{spanOf}
 use Rattle.words.proofs.word_at.Statement.{statement}

@@ -1,4 +1,4 @@
--- `write` meets its contract: one law for each reply, on the page as the text. Assumes nothing.
+-- `write` meets its contract: one law for each reply, on the page as the text.
 use mathlib.Core.Bool.{true}
 use mathlib.Core.Path.{_≡_, sym, _∙_}
 use Prim.Native.Nat.{ℕ}

@@ -1,4 +1,4 @@
--- `put_body` meets its contract: the form goes on from the area. Assumes nothing.
+-- `put_body` meets its contract: the form goes on from the area.
 use borrow.Author.Needs.{needs}
 use Rattle.pens.proofs.PenLaws.{line-on}
 use Rattle.message.specs.Words.{areaWords, bodyWords}

@@ -1,4 +1,4 @@
--- `put_good` meets its contract: heading, CR LF, first line, CR LF, body and `=`, one behind the other. Assumes nothing.
+-- `put_good` meets its contract: heading, CR LF, first line, CR LF, body and `=`, one behind the other.
 use borrow.Author.Needs.{needs}
 use Rattle.message.specs.Words.{textOf}
 use Rattle.writer_sections.proofs.Sentences.{line-then, line-end}

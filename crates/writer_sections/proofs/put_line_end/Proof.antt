@@ -1,4 +1,4 @@
--- `put_line_end` meets its contract: its bytes are CR LF. Assumes nothing.
+-- `put_line_end` meets its contract: its bytes are CR LF.
 use borrow.Author.Needs.{needs}
 use Rattle.writer_sections.proofs.put_line_end.Statement.{statement}
 use Rattle.writer_sections.proofs.put_line_end.Tie as tie

@@ -1,4 +1,4 @@
--- `put_text` meets its contract: the text of a good record, and nothing of any other. Assumes nothing.
+-- `put_text` meets its contract: the text of a good record, and nothing of any other.
 use borrow.Author.Needs.{needs}
 use Rattle.writer_sections.proofs.RecordLaws.{bad-record, good-record, found-good}
 use Rattle.writer_sections.proofs.put_text.Statement.{statement}

@@ -1,4 +1,4 @@
--- `is_good` meets its contract. Assumes nothing.
+-- `is_good` meets its contract.
 use Rattle.board.proofs.BoardLaws.{board-good}
 use borrow.Author.Needs.{needs}
 use Rattle.board.proofs.Board.is_good.Statement.{statement}

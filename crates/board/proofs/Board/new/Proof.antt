@@ -1,4 +1,4 @@
--- `new` meets its contract. Assumes nothing.
+-- `new` meets its contract.
 use borrow.Author.Needs.{needs}
 use Rattle.board.proofs.Board.new.Statement.{statement}
 use Rattle.board.proofs.Board.new.Tie as tie

@@ -1,4 +1,4 @@
--- `post` meets its contract. Assumes nothing.
+-- `post` meets its contract.
 use Rattle.board.proofs.SettleLaws.{posts-not, claims-not, posts}
 use borrow.Author.Needs.{needs}
 use Rattle.board.proofs.Board.post.Statement.{statement}

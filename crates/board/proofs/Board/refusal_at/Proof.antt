@@ -1,4 +1,4 @@
--- `refusal_at` meets its contract. Assumes nothing.
+-- `refusal_at` meets its contract.
 use Rattle.board.proofs.BoardLaws.{not-good, out-of-range, too-early, unrefused}
 use borrow.Author.Needs.{needs}
 use Rattle.board.proofs.Board.refusal_at.Statement.{statement}

@@ -1,4 +1,4 @@
--- `settle` meets its contract. Assumes nothing.
+-- `settle` meets its contract.
 use native.Mathlib.Omega.{arith}
 use Rattle.board.proofs.SettleLaws.{settles-not, settles}
 use borrow.Author.Needs.{needs}

@@ -1,4 +1,4 @@
--- `are_distinct` meets its contract. Assumes nothing.
+-- `are_distinct` meets its contract.
 use mathlib.Core.Path.{_≡_, refl, sym, _∙_}
 use Prim.Native.Nat.{_-_, _≤_}
 use native.Mathlib.Omega.{arith}

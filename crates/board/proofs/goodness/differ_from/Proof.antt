@@ -1,4 +1,4 @@
--- `differ_from` meets its contract. Assumes nothing.
+-- `differ_from` meets its contract.
 use mathlib.Core.Bool.{Bool, not}
 use mathlib.Core.Path.{_≡_, refl, sym, ap, _∙_}
 use Prim.Native.Nat.{_-_}

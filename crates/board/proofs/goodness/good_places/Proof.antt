@@ -1,4 +1,4 @@
--- `good_places` meets its contract. Assumes nothing.
+-- `good_places` meets its contract.
 use Rattle.places.specs.Places.{noPlace, goodPlace}
 use Rattle.board.proofs.BoardLaws.{places-all}
 use mathlib.Core.Path.{_≡_, refl, sym, _∙_}

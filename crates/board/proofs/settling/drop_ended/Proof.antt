@@ -1,4 +1,4 @@
--- `drop_ended` meets its contract. Assumes nothing.
+-- `drop_ended` meets its contract.
 use mathlib.Core.List.{_++_, map}
 use mathlib.Core.Path.{_≡_, refl, sym, _∙_}
 use Prim.Native.Nat.{_-_, _≤_}

@@ -1,4 +1,4 @@
--- `find_empty` meets its contract. Assumes nothing.
+-- `find_empty` meets its contract.
 use mathlib.Core.Path.{_≡_, sym, _∙_}
 use Prim.Native.Nat.{_-_, _≤_}
 use native.Mathlib.Omega.{arith}

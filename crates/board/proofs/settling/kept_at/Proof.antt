@@ -1,4 +1,4 @@
--- `kept_at` meets its contract. Assumes nothing.
+-- `kept_at` meets its contract.
 use Rattle.board.proofs.SettleLaws.{drops, keeps}
 use borrow.Author.Needs.{needs}
 use Rattle.board.proofs.settling.kept_at.Statement.{statement}

@@ -1,4 +1,4 @@
--- `object` meets its contract. Assumes nothing.
+-- `object` meets its contract.
 use Rattle.board.proofs.SettleLaws.{objects-22, objects-21, corrects-not, objects-not}
 use borrow.Author.Needs.{needs}
 use Rattle.board.proofs.settling.object.Statement.{statement}

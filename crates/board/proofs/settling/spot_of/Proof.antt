@@ -1,4 +1,4 @@
--- `spot_of` meets its contract. Assumes nothing.
+-- `spot_of` meets its contract.
 use mathlib.Core.Path.{_≡_}
 use lib.ListN.{length}
 use Rattle.board.proofs.SettleLaws.{finds, spot-held, spot-free, spot-full}

@@ -1,4 +1,4 @@
--- `month_of` meets its contract: the day is from the first of `low` on and before the first of `high`, and the stretch between is halved. Assumes nothing.
+-- `month_of` meets its contract: the day is from the first of `low` on and before the first of `high`, and the stretch between is halved.
 use mathlib.Core.Path.{_≡_}
 use Prim.Native.Nat.{suc, _-_, _≤_, _<_}
 use native.Mathlib.Omega.{arith}

@@ -1,4 +1,4 @@
--- `first_day` meets its contract: the rule is computed down the whole table, and holds at the month asked for. Assumes nothing.
+-- `first_day` meets its contract: the rule is computed down the whole table, and holds at the month asked for.
 use borrow.Author.Needs.{needs}
 use Rattle.calendar.specs.Gregorian.{monthLength}
 use Rattle.calendar.proofs.TableLaws.{first-of}

@@ -1,4 +1,4 @@
--- `coordinate` meets its contract: a law for each way out. Assumes nothing.
+-- `coordinate` meets its contract: a law for each way out.
 use borrow.Author.Needs.{needs}
 use native.Mathlib.Omega.{arith}
 use Rattle.coordinates.proofs.Ways.{no-length, in-degrees, in-minutes}

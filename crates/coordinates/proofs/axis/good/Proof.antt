@@ -1,4 +1,4 @@
--- `good` meets its contract, by those of its two halves. Assumes nothing.
+-- `good` meets its contract, by those of its two halves.
 use borrow.Author.Needs.{needs}
 use Rattle.coordinates.specs.Coordinates.{goodCoordinate}
 use Rattle.coordinates.proofs.axis.good.Statement.{statement}

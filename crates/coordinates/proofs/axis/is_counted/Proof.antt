@@ -1,4 +1,4 @@
--- `is_counted` meets its contract, test by test. Assumes nothing.
+-- `is_counted` meets its contract, test by test.
 use borrow.Author.Needs.{needs}
 use Rattle.coordinates.proofs.axis.is_counted.Statement.{statement}
 use Rattle.coordinates.proofs.axis.is_counted.Tie as tie

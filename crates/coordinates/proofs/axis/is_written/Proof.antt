@@ -1,4 +1,4 @@
--- `is_written` meets its contract, test by test. Assumes nothing.
+-- `is_written` meets its contract, test by test.
 use borrow.Author.Needs.{needs}
 use Rattle.coordinates.proofs.axis.is_written.Statement.{statement}
 use Rattle.coordinates.proofs.axis.is_written.Tie as tie

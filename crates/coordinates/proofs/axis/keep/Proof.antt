@@ -1,4 +1,4 @@
--- `keep` meets its contract: its two ways are those of `pick`. Assumes nothing.
+-- `keep` meets its contract: its two ways are those of `pick`.
 use borrow.Author.Needs.{needs}
 use Rattle.coordinates.proofs.axis.keep.Statement.{statement}
 use Rattle.coordinates.proofs.axis.keep.Tie as tie

@@ -1,4 +1,4 @@
--- `lines::find` stays within the text. Assumes nothing.
+-- `lines::find` stays within the text.
 use Prim.Native.Nat.{_-_, _≤_}
 use native.Mathlib.Omega.{arith}
 use lib.ListN.{length}

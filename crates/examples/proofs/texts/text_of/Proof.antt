@@ -1,4 +1,4 @@
--- `texts::text_of` stays within `out` and comes to the line's end. Assumes nothing.
+-- `texts::text_of` stays within `out` and comes to the line's end.
 use Prim.Native.Nat.{_-_, _≤_}
 use mathlib.Core.Path.{_≡_, refl}
 use native.Mathlib.Omega.{arith}

@@ -1,4 +1,4 @@
--- `writing::is_written` compares and prints no more than the buffer holds: the writer's count lies within it. Assumes nothing.
+-- `writing::is_written` compares and prints no more than the buffer holds: the writer's count lies within it.
 use borrow.Author.Needs.{needs}
 use Rattle.io.proofs.Counting.{front}
 use Rattle.writer.proofs.Within.{within}

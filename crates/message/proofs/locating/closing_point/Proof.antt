@@ -1,4 +1,4 @@
--- `locating::closing_point` meets its contract. Assumes nothing.
+-- `locating::closing_point` meets its contract.
 use Prim.Native.Nat.{_-_, _≤_}
 use mathlib.Core.Path.{_≡_, refl, sym, _∙_}
 use native.Mathlib.Omega.{arith}

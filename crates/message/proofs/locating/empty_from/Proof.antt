@@ -1,4 +1,4 @@
--- `locating::empty_from` meets its contract. Assumes nothing.
+-- `locating::empty_from` meets its contract.
 use Prim.Native.Nat.{_-_}
 use mathlib.Core.Path.{_≡_, refl, sym, _∙_}
 use native.Mathlib.Omega.{arith}

@@ -1,4 +1,4 @@
--- `locating::empty_side` meets its contract. Assumes nothing.
+-- `locating::empty_side` meets its contract.
 use borrow.Author.Needs.{needs}
 use Rattle.message.specs.Locations.{emptySide}
 use Rattle.message.proofs.locating.empty_side.Statement.{statement}

@@ -1,4 +1,4 @@
--- `locating::good` meets its contract. Assumes nothing.
+-- `locating::good` meets its contract.
 use borrow.Author.Needs.{needs}
 use Rattle.message.specs.Locations.{goodExtent}
 use Rattle.message.proofs.locating.good.Statement.{statement}

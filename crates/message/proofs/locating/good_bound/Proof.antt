@@ -1,4 +1,4 @@
--- `locating::good_bound` meets its contract. Assumes nothing.
+-- `locating::good_bound` meets its contract.
 use borrow.Author.Needs.{needs}
 use Rattle.message.specs.Locations.{goodBound}
 use Rattle.message.proofs.locating.good_bound.Statement.{statement}

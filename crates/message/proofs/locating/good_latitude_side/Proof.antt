@@ -1,4 +1,4 @@
--- `locating::good_latitude_side` meets its contract. Assumes nothing.
+-- `locating::good_latitude_side` meets its contract.
 use borrow.Author.Needs.{needs}
 use Rattle.message.specs.Locations.{goodSide}
 use Rattle.message.proofs.locating.good_latitude_side.Statement.{statement}

@@ -1,4 +1,4 @@
--- `locating::good_longitude_side` meets its contract. Assumes nothing.
+-- `locating::good_longitude_side` meets its contract.
 use borrow.Author.Needs.{needs}
 use Rattle.message.specs.Locations.{goodSide}
 use Rattle.message.proofs.locating.good_longitude_side.Statement.{statement}

@@ -1,4 +1,4 @@
--- `locating::good_outline` meets its contract. Assumes nothing.
+-- `locating::good_outline` meets its contract.
 use borrow.Author.Needs.{needs}
 use mathlib.Core.Path.{_≡_}
 use borrow.Author.Tests.{lt-leb, le-leb}

@@ -1,4 +1,4 @@
--- `locating::good_until` meets its contract. Assumes nothing.
+-- `locating::good_until` meets its contract.
 use mathlib.Core.List.{List}
 use Prim.Native.Nat.{ℕ, _-_, _≤_, _<_}
 use mathlib.Core.Path.{_≡_, refl, sym, _∙_}

@@ -1,4 +1,4 @@
--- `locating::is_empty` meets its contract. Assumes nothing.
+-- `locating::is_empty` meets its contract.
 use borrow.Author.Needs.{needs}
 use Rattle.message.specs.Locations.{emptyExtent}
 use Rattle.message.proofs.locating.is_empty.Statement.{statement}

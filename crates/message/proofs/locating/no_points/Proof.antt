@@ -1,4 +1,4 @@
--- `locating::no_points` meets its contract. Assumes nothing.
+-- `locating::no_points` meets its contract.
 use borrow.Author.Needs.{needs}
 use mathlib.Core.Path.{_≡_}
 use lib.ListN.{length}

@@ -1,4 +1,4 @@
--- `naming::all_zero` meets its contract. Assumes nothing.
+-- `naming::all_zero` meets its contract.
 use Prim.Native.Nat.{_-_}
 use mathlib.Core.Path.{_≡_, refl, sym, _∙_}
 use native.Mathlib.Omega.{arith}

@@ -1,4 +1,4 @@
--- `naming::good` meets its contract. Assumes nothing.
+-- `naming::good` meets its contract.
 use borrow.Author.Needs.{needs}
 use mathlib.Core.Path.{_≡_}
 use borrow.Author.Tests.{lt-leb, le-leb}

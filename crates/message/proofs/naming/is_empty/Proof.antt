@@ -1,4 +1,4 @@
--- `naming::is_empty` meets its contract. Assumes nothing.
+-- `naming::is_empty` meets its contract.
 use borrow.Author.Needs.{needs}
 use mathlib.Core.Path.{_≡_}
 use borrow.Author.Tests.{ne-eqb}

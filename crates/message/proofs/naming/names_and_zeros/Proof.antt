@@ -1,4 +1,4 @@
--- `naming::names_and_zeros` meets its contract. Assumes nothing.
+-- `naming::names_and_zeros` meets its contract.
 use borrow.Author.Needs.{needs}
 use mathlib.Core.Path.{sym}
 use Prim.Native.Nat.{_≤_, _-_}

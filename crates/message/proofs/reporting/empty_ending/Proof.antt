@@ -1,4 +1,4 @@
--- `reporting::empty_ending` meets its contract. Assumes nothing.
+-- `reporting::empty_ending` meets its contract.
 use borrow.Author.Needs.{needs}
 use Rattle.message.specs.Reports.{emptyEnding}
 use Rattle.message.proofs.reporting.empty_ending.Statement.{statement}

@@ -1,4 +1,4 @@
--- `reporting::empty_observation` meets its contract. Assumes nothing.
+-- `reporting::empty_observation` meets its contract.
 use borrow.Author.Needs.{needs}
 use Rattle.message.specs.Reports.{emptyObservation}
 use Rattle.message.proofs.reporting.empty_observation.Statement.{statement}

@@ -1,4 +1,4 @@
--- `reporting::empty_volcano` meets its contract. Assumes nothing.
+-- `reporting::empty_volcano` meets its contract.
 use borrow.Author.Needs.{needs}
 use Rattle.message.specs.Reports.{emptyVolcano}
 use Rattle.message.proofs.reporting.empty_volcano.Statement.{statement}

@@ -1,4 +1,4 @@
--- `reporting::good` meets its contract. Assumes nothing.
+-- `reporting::good` meets its contract.
 use borrow.Author.Needs.{needs}
 use Rattle.message.specs.Reports.{goodReport}
 use Rattle.message.proofs.reporting.good.Statement.{statement}

@@ -1,4 +1,4 @@
--- `reporting::good_ending` meets its contract. Assumes nothing.
+-- `reporting::good_ending` meets its contract.
 use borrow.Author.Needs.{needs}
 use Rattle.motions.specs.Motions.{compassWords}
 use Rattle.message.specs.Reports.{goodEnding}

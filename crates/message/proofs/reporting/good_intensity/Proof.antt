@@ -1,4 +1,4 @@
--- `reporting::good_intensity` meets its contract. Assumes nothing.
+-- `reporting::good_intensity` meets its contract.
 use borrow.Author.Needs.{needs}
 use Rattle.motions.specs.Motions.{intensityWords}
 use Rattle.message.proofs.reporting.good_intensity.Statement.{statement}

@@ -1,4 +1,4 @@
--- `reporting::good_observation` meets its contract. Assumes nothing.
+-- `reporting::good_observation` meets its contract.
 use borrow.Author.Needs.{needs}
 use Rattle.message.specs.Reports.{goodObservation}
 use Rattle.message.proofs.reporting.good_observation.Statement.{statement}

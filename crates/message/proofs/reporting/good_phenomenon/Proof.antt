@@ -1,4 +1,4 @@
--- `reporting::good_phenomenon` meets its contract. Assumes nothing.
+-- `reporting::good_phenomenon` meets its contract.
 use borrow.Author.Needs.{needs}
 use Rattle.message.specs.Reports.{goodPhenomenon}
 use Rattle.message.proofs.reporting.good_phenomenon.Statement.{statement}

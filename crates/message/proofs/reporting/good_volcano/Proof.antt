@@ -1,4 +1,4 @@
--- `reporting::good_volcano` meets its contract. Assumes nothing.
+-- `reporting::good_volcano` meets its contract.
 use borrow.Author.Needs.{needs}
 use Rattle.message.specs.Reports.{goodVolcano}
 use Rattle.message.proofs.reporting.good_volcano.Statement.{statement}

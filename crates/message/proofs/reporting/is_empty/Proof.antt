@@ -1,4 +1,4 @@
--- `reporting::is_empty` meets its contract. Assumes nothing.
+-- `reporting::is_empty` meets its contract.
 use borrow.Author.Needs.{needs}
 use Rattle.message.specs.Reports.{emptyReport}
 use Rattle.message.proofs.reporting.is_empty.Statement.{statement}

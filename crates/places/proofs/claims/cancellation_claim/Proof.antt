@@ -1,4 +1,4 @@
--- `cancellation_claim` meets its contract. Assumes nothing.
+-- `cancellation_claim` meets its contract.
 use Rattle.places.proofs.ClaimReturns.{untargeted, targeted}
 use borrow.Author.Needs.{needs}
 use Rattle.places.proofs.claims.cancellation_claim.Statement.{statement}

@@ -1,4 +1,4 @@
--- `claim_of` meets its contract. Assumes nothing.
+-- `claim_of` meets its contract.
 use Rattle.places.proofs.ClaimReturns.{bad-record, a-test, no-start, no-end, a-claim, good-known}
 use borrow.Author.Needs.{needs}
 use Rattle.places.proofs.claims.claim_of.Statement.{statement}

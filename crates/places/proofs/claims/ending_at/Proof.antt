@@ -1,4 +1,4 @@
--- `ending_at` meets its contract. Assumes nothing.
+-- `ending_at` meets its contract.
 use Rattle.places.proofs.ClaimReturns.{ended, unended}
 use borrow.Author.Needs.{needs}
 use Rattle.places.proofs.claims.ending_at.Statement.{statement}

@@ -1,4 +1,4 @@
--- `identity_of` meets its contract. Assumes nothing.
+-- `identity_of` meets its contract.
 use borrow.Author.Needs.{needs}
 use Rattle.places.proofs.claims.identity_of.Statement.{statement}
 use Rattle.places.proofs.claims.identity_of.Tie as tie

@@ -1,4 +1,4 @@
--- `is_test` meets its contract, form by form. Assumes nothing.
+-- `is_test` meets its contract, form by form.
 use borrow.Author.Needs.{needs}
 use Rattle.places.proofs.claims.is_test.Statement.{statement}
 use Rattle.places.proofs.claims.is_test.Tie as tie

@@ -1,4 +1,4 @@
--- `report_claim` meets its contract. Assumes nothing.
+-- `report_claim` meets its contract.
 use Rattle.places.proofs.ClaimReturns.{reports}
 use borrow.Author.Needs.{needs}
 use Rattle.places.proofs.claims.report_claim.Statement.{statement}

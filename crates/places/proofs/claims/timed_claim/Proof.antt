@@ -1,4 +1,4 @@
--- `timed_claim` meets its contract. Assumes nothing.
+-- `timed_claim` meets its contract.
 use Rattle.places.proofs.ClaimReturns.{timed-none, timed-test, timed-cancels, timed-reports, named-good, own-good}
 use borrow.Author.Needs.{needs}
 use Rattle.places.proofs.claims.timed_claim.Statement.{statement}

@@ -1,4 +1,4 @@
--- `unclaimed_by` meets its contract. Assumes nothing.
+-- `unclaimed_by` meets its contract.
 use borrow.Author.Needs.{needs}
 use Rattle.places.proofs.claims.unclaimed_by.Statement.{statement}
 use Rattle.places.proofs.claims.unclaimed_by.Tie as tie

@@ -1,4 +1,4 @@
--- `before_space` meets its contract. Assumes nothing.
+-- `before_space` meets its contract.
 use Rattle.places.proofs.PaddedLaws.{space-0, space-1, space-2, space-3}
 use Rattle.places.proofs.padding.before_space.Statement.{statement}
 use Rattle.places.proofs.padding.before_space.Tie as tie

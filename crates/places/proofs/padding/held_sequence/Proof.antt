@@ -1,4 +1,4 @@
--- `held_sequence` meets its contract. Assumes nothing.
+-- `held_sequence` meets its contract.
 use mathlib.Core.Path.{sym, _∙_}
 use Rattle.places.proofs.PaddedLaws.{held-good, held-bad}
 use borrow.Author.Needs.{needs}

@@ -1,4 +1,4 @@
--- `padded` meets its contract. Assumes nothing.
+-- `padded` meets its contract.
 use Rattle.places.proofs.PaddedLaws.{bare-one, bare-two, bare-three, lettered-one, lettered-two}
 use borrow.Author.Needs.{needs}
 use Rattle.places.proofs.padding.padded.Statement.{statement}

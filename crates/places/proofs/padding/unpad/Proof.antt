@@ -1,4 +1,4 @@
--- `unpad` meets its contract. Assumes nothing.
+-- `unpad` meets its contract.
 use mathlib.Core.List.{[], _∷_}
 use mathlib.Core.Path.{sym, ap, _∙_}
 use Prim.Native.Nat.{_/_, _%_}

@@ -1,4 +1,4 @@
--- `empty_place` meets its contract. Assumes nothing.
+-- `empty_place` meets its contract.
 use Rattle.places.specs.Places.{emptyPlace}
 use borrow.Author.Needs.{needs}
 use Rattle.places.proofs.places.empty_place.Statement.{statement}

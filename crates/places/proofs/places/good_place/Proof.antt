@@ -1,4 +1,4 @@
--- `good_place` meets its contract. Assumes nothing.
+-- `good_place` meets its contract.
 use Rattle.places.specs.Places.{goodPlace, heldPlace}
 use borrow.Author.Needs.{needs}
 use Rattle.places.proofs.places.good_place.Statement.{statement}

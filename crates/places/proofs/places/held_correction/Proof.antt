@@ -1,4 +1,4 @@
--- `held_correction` meets its contract. Assumes nothing.
+-- `held_correction` meets its contract.
 use Rattle.places.specs.Places.{heldCorrection}
 use borrow.Author.Needs.{needs}
 use Rattle.places.proofs.places.held_correction.Statement.{statement}

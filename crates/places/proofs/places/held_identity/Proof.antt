@@ -1,4 +1,4 @@
--- `held_identity` meets its contract. Assumes nothing.
+-- `held_identity` meets its contract.
 use Rattle.places.proofs.PlaceLaws.{ends-early, held-identity}
 use borrow.Author.Needs.{needs}
 use Rattle.places.proofs.places.held_identity.Statement.{statement}

@@ -1,4 +1,4 @@
--- `no_place` meets its contract. Assumes nothing.
+-- `no_place` meets its contract.
 use borrow.Author.Needs.{needs}
 use Rattle.places.proofs.places.no_place.Statement.{statement}
 use Rattle.places.proofs.places.no_place.Tie as tie

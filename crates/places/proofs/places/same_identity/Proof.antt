@@ -1,4 +1,4 @@
--- `same_identity` meets its contract. Assumes nothing.
+-- `same_identity` meets its contract.
 use Rattle.places.specs.Places.{sameIdentity}
 use borrow.Author.Needs.{needs}
 use Rattle.places.proofs.places.same_identity.Statement.{statement}

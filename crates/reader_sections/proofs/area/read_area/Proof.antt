@@ -1,4 +1,4 @@
--- `read_area` meets its contract: four letters, a name, and the word that closes it. Assumes nothing.
+-- `read_area` meets its contract: four letters, a name, and the word that closes it.
 use borrow.Author.Needs.{needs}
 use mathlib.Core.Bool.{false}
 use mathlib.Core.List.{List}

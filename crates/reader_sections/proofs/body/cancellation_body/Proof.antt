@@ -1,4 +1,4 @@
--- `cancellation_body` meets its contract: what is cancelled, and the `=`. Assumes nothing.
+-- `cancellation_body` meets its contract: what is cancelled, and the `=`.
 use borrow.Author.Needs.{needs}
 use mathlib.Core.List.{List}
 use Prim.Native.Nat.{ℕ}

@@ -1,4 +1,4 @@
--- `read_body` meets its contract: TEST, `TEST.` and CNL are told by their codes, and any other word is judged as a phenomenon. Assumes nothing.
+-- `read_body` meets its contract: TEST, `TEST.` and CNL are told by their codes, and any other word is judged as a phenomenon.
 use borrow.Author.Needs.{needs}
 use mathlib.Core.List.{List}
 use mathlib.Core.Path.{_≡_, ap}

@@ -1,4 +1,4 @@
--- `cancelled_at` meets its contract: a period is taken where it cancels, and the `=` is no period. Assumes nothing.
+-- `cancelled_at` meets its contract: a period is taken where it cancels, and the `=` is no period.
 use borrow.Author.Needs.{needs}
 use Rattle.reader_sections.proofs.Leads.{takes}
 use Rattle.reader_sections.proofs.Tells.{cancelled-none}

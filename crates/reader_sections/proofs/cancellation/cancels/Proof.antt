@@ -1,4 +1,4 @@
--- `cancels` meets its contract: the tests are those of the definition. Assumes nothing.
+-- `cancels` meets its contract: the tests are those of the definition.
 use borrow.Author.Needs.{needs}
 use Rattle.grammar.specs.Steps.{cancels}
 use Rattle.reader_sections.proofs.cancellation.cancels.Statement.{statement}

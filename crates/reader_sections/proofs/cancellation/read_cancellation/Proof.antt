@@ -1,4 +1,4 @@
--- `read_cancellation` meets its contract: SIGMET, a sequence and a period that cancels, one after another. Assumes nothing.
+-- `read_cancellation` meets its contract: SIGMET, a sequence and a period that cancels, one after another.
 use borrow.Author.Needs.{needs}
 use mathlib.Core.List.{List}
 use mathlib.Core.Path.{refl}

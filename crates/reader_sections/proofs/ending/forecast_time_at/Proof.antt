@@ -1,4 +1,4 @@
--- `forecast_time_at` meets its contract: a time, and that of the end of VALID. Assumes nothing.
+-- `forecast_time_at` meets its contract: a time, and that of the end of VALID.
 use borrow.Author.Needs.{needs}
 use mathlib.Core.Bool.{Bool}
 use mathlib.Core.List.{List}

@@ -1,4 +1,4 @@
--- `read_ending` meets its contract: by its first word it moves, has a forecast (a WS), or stands still. Assumes nothing.
+-- `read_ending` meets its contract: by its first word it moves, has a forecast (a WS), or stands still.
 use borrow.Author.Needs.{needs}
 use mathlib.Core.Bool.{Bool, true, false, not}
 use mathlib.Core.List.{List}

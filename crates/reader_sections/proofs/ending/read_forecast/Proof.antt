@@ -1,4 +1,4 @@
--- `read_forecast` meets its contract: the intensity, FCST AT, the time, and a location at the forecast. Assumes nothing.
+-- `read_forecast` meets its contract: the intensity, FCST AT, the time, and a location at the forecast.
 use borrow.Author.Needs.{needs}
 use mathlib.Core.List.{List}
 use mathlib.Core.Path.{refl}

@@ -1,4 +1,4 @@
--- `read_moving` meets its contract: a compass point, a speed and the intensity. Assumes nothing.
+-- `read_moving` meets its contract: a compass point, a speed and the intensity.
 use borrow.Author.Needs.{needs}
 use mathlib.Core.List.{List}
 use mathlib.Core.Path.{refl}

@@ -1,4 +1,4 @@
--- `read_line` meets its contract: six words, one after another. Assumes nothing.
+-- `read_line` meets its contract: six words, one after another.
 use borrow.Author.Needs.{needs}
 use mathlib.Core.List.{List}
 use mathlib.Core.Path.{refl}

@@ -1,4 +1,4 @@
--- `read_correction` meets its contract: a correction, or a word that stays. Assumes nothing.
+-- `read_correction` meets its contract: a correction, or a word that stays.
 use borrow.Author.Needs.{needs}
 use Rattle.reader_sections.proofs.Leads.{correction-no, correction-yes}
 use Rattle.reader_sections.proofs.heading.read_correction.Statement.{statement}

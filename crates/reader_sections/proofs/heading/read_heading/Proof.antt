@@ -1,4 +1,4 @@
--- `read_heading` meets its contract: three words, and perhaps a correction. Assumes nothing.
+-- `read_heading` meets its contract: three words, and perhaps a correction.
 use borrow.Author.Needs.{needs}
 use mathlib.Core.List.{List}
 use mathlib.Core.Path.{refl}

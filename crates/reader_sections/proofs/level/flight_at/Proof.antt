@@ -1,4 +1,4 @@
--- `flight_at` meets its contract: a word is FLnnn where the number of its level is not 0. Assumes nothing.
+-- `flight_at` meets its contract: a word is FLnnn where the number of its level is not 0.
 use borrow.Author.Needs.{needs}
 use mathlib.Core.Bool.{not}
 use mathlib.Core.List.{List}

@@ -1,4 +1,4 @@
--- `level_at` meets its contract: a word is a level where its level is not empty. Assumes nothing.
+-- `level_at` meets its contract: a word is a level where its level is not empty.
 use borrow.Author.Needs.{needs}
 use mathlib.Core.Bool.{Bool, not}
 use mathlib.Core.List.{List}

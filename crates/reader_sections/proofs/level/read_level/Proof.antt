@@ -1,4 +1,4 @@
--- `read_level` meets its contract: TOP or ABV before a height, or a level of one word. Assumes nothing.
+-- `read_level` meets its contract: TOP or ABV before a height, or a level of one word.
 use borrow.Author.Needs.{needs}
 use mathlib.Core.List.{List}
 use mathlib.Core.Path.{_≡_, refl}

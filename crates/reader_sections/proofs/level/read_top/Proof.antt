@@ -1,4 +1,4 @@
--- `read_top` meets its contract: perhaps ABV, then FLnnn. Assumes nothing.
+-- `read_top` meets its contract: perhaps ABV, then FLnnn.
 use borrow.Author.Needs.{needs}
 use mathlib.Core.Bool.{Bool, true, false}
 use mathlib.Core.List.{List}

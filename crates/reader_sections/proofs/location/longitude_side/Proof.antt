@@ -1,4 +1,4 @@
--- `longitude_side` meets its contract: a word of one letter is told by its code. Assumes nothing.
+-- `longitude_side` meets its contract: a word of one letter is told by its code.
 use lib.Dec.{lit<}
 use Rattle.reader_sections.proofs.Sides.{side-plus, side-minus, side-neither}
 use Rattle.reader_sections.proofs.location.longitude_side.Statement.{statement}

@@ -1,4 +1,4 @@
--- `read_entire` meets its contract: the word is that of the area. Assumes nothing.
+-- `read_entire` meets its contract: the word is that of the area.
 use borrow.Author.Needs.{needs}
 use mathlib.Core.Logic.{⊎-elim}
 use Rattle.figures.specs.Codes.{FixedWord}

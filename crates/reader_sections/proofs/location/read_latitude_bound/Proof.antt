@@ -1,4 +1,4 @@
--- `read_latitude_bound` meets its contract: OF and a latitude, and what may follow. Assumes nothing.
+-- `read_latitude_bound` meets its contract: OF and a latitude, and what may follow.
 use borrow.Author.Needs.{needs}
 use mathlib.Core.List.{List}
 use Prim.Native.Nat.{ℕ}

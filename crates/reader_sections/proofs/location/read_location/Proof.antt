@@ -1,4 +1,4 @@
--- `read_location` meets its contract: its first word tells a bound, the entire area or an outline. Assumes nothing.
+-- `read_location` meets its contract: its first word tells a bound, the entire area or an outline.
 use borrow.Author.Needs.{needs}
 use mathlib.Core.Bool.{false}
 use mathlib.Core.List.{List, []}

@@ -1,4 +1,4 @@
--- `read_longitude_bound` meets its contract: OF and a longitude close the bound. Assumes nothing.
+-- `read_longitude_bound` meets its contract: OF and a longitude close the bound.
 use borrow.Author.Needs.{needs}
 use mathlib.Core.List.{List}
 use mathlib.Core.Path.{_≡_}

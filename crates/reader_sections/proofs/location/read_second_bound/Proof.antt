@@ -1,4 +1,4 @@
--- `read_second_bound` meets its contract: without AND the location is over, with it a longitude bound follows. Assumes nothing.
+-- `read_second_bound` meets its contract: without AND the location is over, with it a longitude bound follows.
 use borrow.Author.Needs.{needs}
 use mathlib.Core.Bool.{Bool, true, false, not}
 use mathlib.Core.List.{List}

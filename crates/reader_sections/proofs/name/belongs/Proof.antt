@@ -1,4 +1,4 @@
--- `belongs` meets its contract: a word that is not too long is tested by `in_name`. Assumes nothing.
+-- `belongs` meets its contract: a word that is not too long is tested by `in_name`.
 use borrow.Author.Needs.{needs}
 use Rattle.reader_sections.proofs.NameText.{belongs-long, belongs-short}
 use Rattle.reader_sections.proofs.name.belongs.Statement.{statement}

@@ -1,4 +1,4 @@
--- `first_name` meets its contract: the word goes into the bytes of the empty name. Assumes nothing.
+-- `first_name` meets its contract: the word goes into the bytes of the empty name.
 use borrow.Author.Needs.{needs}
 use borrow.Author.Tests.{not-true, not-false}
 use Rattle.reader_sections.proofs.NameBytes.{first-fits, no-first, first-in}

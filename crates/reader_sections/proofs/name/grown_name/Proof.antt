@@ -1,4 +1,4 @@
--- `grown_name` meets its contract: a space and the word behind a text are the text grown. Assumes nothing.
+-- `grown_name` meets its contract: a space and the word behind a text are the text grown.
 use borrow.Author.Needs.{needs}
 use Rattle.reader_sections.proofs.NameBytes.{grown-says}
 use Rattle.reader_sections.proofs.name.grown_name.Statement.{statement}

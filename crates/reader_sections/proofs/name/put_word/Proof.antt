@@ -1,4 +1,4 @@
--- `put_word` meets its contract: after i turns the word's first i bytes are in. Assumes nothing.
+-- `put_word` meets its contract: after i turns the word's first i bytes are in.
 use borrow.Author.Needs.{needs}
 use Prim.Native.Nat.{_-_}
 use native.Mathlib.Omega.{arith}

@@ -1,4 +1,4 @@
--- `read_name` meets its contract: each turn the words so far are the name, and the next one goes behind them or ends it. Assumes nothing.
+-- `read_name` meets its contract: each turn the words so far are the name, and the next one goes behind them or ends it.
 use borrow.Author.Needs.{needs}
 use Prim.Native.Nat.{_-_}
 use native.Mathlib.Omega.{arith}

@@ -1,4 +1,4 @@
--- `read_observed` meets its contract: with AT a time, without it the location. Assumes nothing.
+-- `read_observed` meets its contract: with AT a time, without it the location.
 use borrow.Author.Needs.{needs}
 use mathlib.Core.Bool.{Bool, true, false}
 use mathlib.Core.List.{List}

@@ -1,4 +1,4 @@
--- `read_opening` meets its contract: its three parts, one after another. Assumes nothing.
+-- `read_opening` meets its contract: its three parts, one after another.
 use borrow.Author.Needs.{needs}
 use mathlib.Core.List.{List}
 use Prim.Native.Nat.{ℕ}

@@ -1,4 +1,4 @@
--- `closes` meets its contract: no first point closes; a later one does where it is the same as point 1. Assumes nothing.
+-- `closes` meets its contract: no first point closes; a later one does where it is the same as point 1.
 use borrow.Author.Needs.{needs}
 use Rattle.reader_sections.proofs.OutlineLaws.{none-closes, same-closes}
 use Rattle.reader_sections.proofs.outline.closes.Statement.{statement}

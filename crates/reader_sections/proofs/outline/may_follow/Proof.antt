@@ -1,4 +1,4 @@
--- `may_follow` meets its contract: any latitude may be the first; a later one has room, or that of point 1. Assumes nothing.
+-- `may_follow` meets its contract: any latitude may be the first; a later one has room, or that of point 1.
 use borrow.Author.Needs.{needs}
 use Rattle.reader_sections.proofs.OutlineLaws.{first-follows, next-follows}
 use Rattle.reader_sections.proofs.outline.may_follow.Statement.{statement}

@@ -1,4 +1,4 @@
--- `next_latitude` meets its contract. Assumes nothing.
+-- `next_latitude` meets its contract.
 use borrow.Author.Needs.{needs}
 use Rattle.reader_sections.proofs.OutlineLaws.{latitude-says}
 use Rattle.reader_sections.proofs.outline.next_latitude.Statement.{statement}

@@ -1,4 +1,4 @@
--- `next_longitude` meets its contract: letter 0 is that of no longitude, and a point that closes wants four points, any other room. Assumes nothing.
+-- `next_longitude` meets its contract: letter 0 is that of no longitude, and a point that closes wants four points, any other room.
 use borrow.Author.Needs.{needs}
 use mathlib.Core.Logic.{⊎-elim}
 use mathlib.Core.Path.{_≡_, _∙_}

@@ -1,4 +1,4 @@
--- `next_point` meets its contract: a latitude and a longitude, and the `-` where the outline is not closed. Assumes nothing.
+-- `next_point` meets its contract: a latitude and a longitude, and the `-` where the outline is not closed.
 use borrow.Author.Needs.{needs}
 use Rattle.reader_sections.proofs.OutlineLaws.{closing-point, going-point}
 use Rattle.reader_sections.proofs.outline.next_point.Statement.{statement}

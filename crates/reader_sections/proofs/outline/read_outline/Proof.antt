@@ -1,4 +1,4 @@
--- `read_outline` meets its contract: the points read stand at the head of the array, and as many are left as there is room. Assumes nothing.
+-- `read_outline` meets its contract: the points read stand at the head of the array, and as many are left as there is room.
 use borrow.Author.Needs.{needs}
 use Prim.Native.Nat.{_-_}
 use native.Mathlib.Omega.{arith}

@@ -1,4 +1,4 @@
--- `read_radioactive` meets its contract: one fixed word. Assumes nothing.
+-- `read_radioactive` meets its contract: one fixed word.
 use borrow.Author.Needs.{needs}
 use mathlib.Core.List.{List}
 use mathlib.Core.Path.{refl}

@@ -1,4 +1,4 @@
--- `read_severe` meets its contract: a choice of three words by their codes, and after ICE perhaps another one. Assumes nothing.
+-- `read_severe` meets its contract: a choice of three words by their codes, and after ICE perhaps another one.
 use borrow.Author.Needs.{needs}
 use mathlib.Core.Bool.{Bool, true, false}
 use mathlib.Core.List.{List}

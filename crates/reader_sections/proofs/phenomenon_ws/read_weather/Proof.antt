@@ -1,4 +1,4 @@
--- `read_weather` meets its contract: a storm is told by its place in the table of codes, and the rest is a choice by codes. Assumes nothing.
+-- `read_weather` meets its contract: a storm is told by its place in the table of codes, and the rest is a choice by codes.
 use borrow.Author.Needs.{needs}
 use mathlib.Core.List.{List, [], _∷_, map}
 use mathlib.Core.Path.{_≡_, refl, _∙_}

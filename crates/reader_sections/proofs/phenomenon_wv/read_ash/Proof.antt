@@ -1,4 +1,4 @@
--- `read_ash` meets its contract: VA, and then CLD, or ERUPTION and what follows it. Assumes nothing.
+-- `read_ash` meets its contract: VA, and then CLD, or ERUPTION and what follows it.
 use borrow.Author.Needs.{needs}
 use mathlib.Core.Bool.{Bool, true, false}
 use mathlib.Core.List.{List}

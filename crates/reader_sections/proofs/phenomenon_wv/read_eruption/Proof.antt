@@ -1,4 +1,4 @@
--- `read_eruption` meets its contract: the mountain, the two words of a point, VA and CLD, one after another. Assumes nothing.
+-- `read_eruption` meets its contract: the mountain, the two words of a point, VA and CLD, one after another.
 use borrow.Author.Needs.{needs}
 use mathlib.Core.List.{List}
 use mathlib.Core.Path.{refl}

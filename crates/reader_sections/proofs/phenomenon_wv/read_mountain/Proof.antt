@@ -1,4 +1,4 @@
--- `read_mountain` meets its contract: with MT a name and PSN, without it PSN. Assumes nothing.
+-- `read_mountain` meets its contract: with MT a name and PSN, without it PSN.
 use borrow.Author.Needs.{needs}
 use mathlib.Core.Bool.{Bool, true, false}
 use mathlib.Core.List.{List}

@@ -1,4 +1,4 @@
--- `read_phenomenon` meets its contract: by the kind of the bulletin. Assumes nothing.
+-- `read_phenomenon` meets its contract: by the kind of the bulletin.
 use borrow.Author.Needs.{needs}
 use mathlib.Core.List.{List}
 use mathlib.Core.Path.{_≡_, sym, _∙_}

@@ -1,4 +1,4 @@
--- `read_report` meets its contract: its parts one after another, and the `=`. Assumes nothing.
+-- `read_report` meets its contract: its parts one after another, and the `=`.
 use borrow.Author.Needs.{needs}
 use mathlib.Core.List.{List}
 use mathlib.Core.Path.{refl}

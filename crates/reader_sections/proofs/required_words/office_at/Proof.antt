@@ -1,4 +1,4 @@
--- `office_at` meets its contract. Assumes nothing.
+-- `office_at` meets its contract.
 use borrow.Author.Needs.{needs}
 use Rattle.reader_sections.proofs.Leads.{takes-by-field}
 use Rattle.reader_sections.proofs.Tells.{office-tells}

@@ -1,4 +1,4 @@
--- `concluding` meets its contract. Assumes nothing.
+-- `concluding` meets its contract.
 use Rattle.reader_sections.proofs.Leads.{standing, closes-stays, closes-going}
 use Rattle.reader_sections.proofs.OneWord.{end-yes, end-no}
 use Rattle.reader_sections.proofs.steps.concluding.Statement.{statement}

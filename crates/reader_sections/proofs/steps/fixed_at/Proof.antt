@@ -1,4 +1,4 @@
--- `fixed_at` meets its contract. Assumes nothing.
+-- `fixed_at` meets its contract.
 use borrow.Author.Needs.{needs}
 use Rattle.reader_sections.proofs.Leads.{takes-fixed}
 use Rattle.reader_sections.proofs.steps.fixed_at.Statement.{statement}

@@ -1,4 +1,4 @@
--- `judged` meets its contract. Assumes nothing.
+-- `judged` meets its contract.
 use borrow.Author.Needs.{needs}
 use Rattle.reader_sections.proofs.Leads.{judged-good-word, judged-stays, judged-bad}
 use Rattle.reader_sections.proofs.steps.judged.Statement.{statement}

@@ -1,4 +1,4 @@
--- `long_at` meets its contract. Assumes nothing.
+-- `long_at` meets its contract.
 use borrow.Author.Needs.{needs}
 use Rattle.reader_sections.proofs.Leads.{takes-long}
 use Rattle.reader_sections.proofs.steps.long_at.Statement.{statement}

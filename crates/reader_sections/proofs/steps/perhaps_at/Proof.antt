@@ -1,4 +1,4 @@
--- `perhaps_at` meets its contract. Assumes nothing.
+-- `perhaps_at` meets its contract.
 use borrow.Author.Needs.{needs}
 use Rattle.reader_sections.proofs.Leads.{may-yes, may-no}
 use Rattle.reader_sections.proofs.steps.perhaps_at.Statement.{statement}

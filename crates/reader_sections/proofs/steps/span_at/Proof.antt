@@ -1,4 +1,4 @@
--- `span_at` meets its contract: the word that `word_at` finds lies within the text. Assumes nothing.
+-- `span_at` meets its contract: the word that `word_at` finds lies within the text.
 use borrow.Author.Needs.{needs}
 use Rattle.reader_sections.proofs.RunsAt.{word-at-within}
 use Rattle.reader_sections.proofs.steps.span_at.Statement.{statement}

@@ -1,4 +1,4 @@
--- `step_at` meets its contract. Assumes nothing.
+-- `step_at` meets its contract.
 use borrow.Author.Needs.{needs}
 use Rattle.reader_sections.proofs.Leads.{before-is}
 use Rattle.reader_sections.proofs.steps.step_at.Statement.{statement}

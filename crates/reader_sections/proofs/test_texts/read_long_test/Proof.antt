@@ -1,4 +1,4 @@
--- `read_long_test` meets its contract: the words of the longest text, one after another. Assumes nothing.
+-- `read_long_test` meets its contract: the words of the longest text, one after another.
 use borrow.Author.Needs.{needs}
 use mathlib.Core.List.{List}
 use mathlib.Core.Path.{refl}

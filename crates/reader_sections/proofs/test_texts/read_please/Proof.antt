@@ -1,4 +1,4 @@
--- `read_please` meets its contract: both longer texts end with these two words. Assumes nothing.
+-- `read_please` meets its contract: both longer texts end with these two words.
 use borrow.Author.Needs.{needs}
 use mathlib.Core.List.{List}
 use mathlib.Core.Path.{refl}

@@ -1,4 +1,4 @@
--- `read_test` meets its contract: without SIGMET the test is over, and with it the second text goes on. Assumes nothing.
+-- `read_test` meets its contract: without SIGMET the test is over, and with it the second text goes on.
 use borrow.Author.Needs.{needs}
 use mathlib.Core.Bool.{Bool, true, false}
 use mathlib.Core.List.{List}

@@ -1,4 +1,4 @@
--- `calls::list_into` tells no more than the buffer holds: the count lies within it. Assumes nothing.
+-- `calls::list_into` tells no more than the buffer holds: the count lies within it.
 use mathlib.Core.Path.{ap}
 use Prim.Native.Nat.{_≤_}
 use native.Mathlib.Omega.{arith}

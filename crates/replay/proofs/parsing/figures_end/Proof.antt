@@ -1,4 +1,4 @@
--- `parsing::figures_end` meets its contract: the loop keeps what is still to be found. Assumes nothing.
+-- `parsing::figures_end` meets its contract: the loop keeps what is still to be found.
 use Prim.Native.Nat.{_-_, _≤_}
 use mathlib.Core.Path.{_≡_, refl}
 use native.Mathlib.Omega.{arith}

@@ -1,4 +1,4 @@
--- `parsing::grown` meets its contract. Assumes nothing.
+-- `parsing::grown` meets its contract.
 use borrow.Author.Tests.{lt-ltb, le-ltb}
 use borrow.Author.Needs.{needs}
 use Rattle.replay.proofs.parsing.grown.Statement.{statement}

@@ -1,4 +1,4 @@
--- `parsing::number_at` meets its contract: three answers, as the definition has them. Assumes nothing.
+-- `parsing::number_at` meets its contract: three answers, as the definition has them.
 use mathlib.Core.Path.{_∙_}
 use native.Mathlib.Omega.{arith}
 use Rattle.replay.proofs.NumberLaws.{is-none, is-long, is-fine}

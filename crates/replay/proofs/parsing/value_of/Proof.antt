@@ -1,4 +1,4 @@
--- `parsing::value_of` meets its contract: the value so far and the figures that are left make the value. Assumes nothing.
+-- `parsing::value_of` meets its contract: the value so far and the figures that are left make the value.
 use Prim.Native.Nat.{_-_, _≤_}
 use native.Mathlib.Omega.{arith}
 use borrow.Author.Needs.{needs}

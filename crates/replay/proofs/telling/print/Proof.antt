@@ -1,4 +1,4 @@
--- `telling::print` prints no more than the line holds: the pen stays on it. Assumes nothing.
+-- `telling::print` prints no more than the line holds: the pen stays on it.
 use Rattle.io.proofs.Counting.{front}
 use Rattle.pens.proofs.Pages.{inside}
 use borrow.Author.Needs.{needs}

@@ -1,4 +1,4 @@
--- `telling::put_answer` stays within the line. Assumes nothing.
+-- `telling::put_answer` stays within the line.
 use Rattle.pens.proofs.Pages.{inside}
 use Prim.Native.Nat.{zero-le}
 use borrow.Author.Needs.{needs}

@@ -1,4 +1,4 @@
--- `telling::put_hex` stays within the line. Assumes nothing.
+-- `telling::put_hex` stays within the line.
 use mathlib.Core.Path.{_≡_, refl}
 use Prim.Native.Nat.{_-_, _≤_, zero-le}
 use native.Mathlib.Omega.{arith}

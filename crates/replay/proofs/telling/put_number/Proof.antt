@@ -1,4 +1,4 @@
--- `telling::put_number` stays within the line. Assumes nothing.
+-- `telling::put_number` stays within the line.
 use Rattle.pens.proofs.Pages.{inside}
 use borrow.Author.Needs.{needs}
 use Rattle.replay.proofs.telling.put_number.Statement.{statement}

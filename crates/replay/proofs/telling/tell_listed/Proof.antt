@@ -1,4 +1,4 @@
--- `telling::tell_listed` stays within the line. Assumes nothing.
+-- `telling::tell_listed` stays within the line.
 use Rattle.pens.proofs.Pages.{inside}
 use borrow.Author.Needs.{needs}
 use Rattle.replay.proofs.telling.tell_listed.Statement.{statement}

@@ -1,4 +1,4 @@
--- `bytes::is_allowed` meets its contract: what is neither letter nor digit goes through the rest of the definition. Assumes nothing.
+-- `bytes::is_allowed` meets its contract: what is neither letter nor digit goes through the rest of the definition.
 use borrow.Author.Needs.{needs}
 use mathlib.Core.Bool.{Bool, true, false}
 use mathlib.Core.Path.{_≡_, sym, _∙_}

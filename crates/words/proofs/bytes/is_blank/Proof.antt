@@ -1,4 +1,4 @@
--- `bytes::is_blank` meets its contract: the calls of `either` are those of the definition. Assumes nothing.
+-- `bytes::is_blank` meets its contract: the calls of `either` are those of the definition.
 use borrow.Author.Needs.{needs}
 use Rattle.words.proofs.bytes.is_blank.Statement.{statement}
 use Rattle.words.proofs.bytes.is_blank.Tie as tie

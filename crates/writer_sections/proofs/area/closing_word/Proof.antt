@@ -1,4 +1,4 @@
--- `closing_word` meets its contract: each number has its word, and no other number has one. Assumes nothing.
+-- `closing_word` meets its contract: each number has its word, and no other number has one.
 use Rattle.figures.specs.Codes.{behindOne}
 use Rattle.names.specs.Names.{closingWords}
 use Rattle.writer_sections.proofs.Tables.{unnumbered}

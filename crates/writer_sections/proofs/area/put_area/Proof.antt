@@ -1,4 +1,4 @@
--- `put_area` meets its contract: its words, one behind the other. Assumes nothing.
+-- `put_area` meets its contract: its words, one behind the other.
 use borrow.Author.Needs.{needs}
 use Rattle.pens.proofs.PenLaws.{a-line, and-then, renamed}
 use Rattle.message.specs.Words.{areaWords}

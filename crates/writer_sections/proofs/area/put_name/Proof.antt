@@ -1,4 +1,4 @@
--- `put_name` meets its contract: its text is its words with their spaces, and the space before the first. Assumes nothing.
+-- `put_name` meets its contract: its text is its words with their spaces, and the space before the first.
 use borrow.Author.Needs.{needs}
 use mathlib.Core.Path.{_≡_, sym}
 use native.Mathlib.Omega.{arith}

@@ -1,4 +1,4 @@
--- `compass_word` meets its contract: each number has its word, and from 16 on there is none. Assumes nothing.
+-- `compass_word` meets its contract: each number has its word, and from 16 on there is none.
 use Rattle.figures.specs.Codes.{behindOne}
 use Rattle.motions.specs.Motions.{compassWords}
 use Rattle.writer_sections.proofs.Tables.{no-word}

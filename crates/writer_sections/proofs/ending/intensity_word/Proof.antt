@@ -1,4 +1,4 @@
--- `intensity_word` meets its contract: each number has its word, and no other number has one. Assumes nothing.
+-- `intensity_word` meets its contract: each number has its word, and no other number has one.
 use Rattle.figures.specs.Codes.{behindOne}
 use Rattle.motions.specs.Motions.{intensityWords}
 use Rattle.writer_sections.proofs.Tables.{unnumbered}

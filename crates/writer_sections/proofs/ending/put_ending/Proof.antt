@@ -1,4 +1,4 @@
--- `put_ending` meets its contract: each ending has its words. Assumes nothing.
+-- `put_ending` meets its contract: each ending has its words.
 use borrow.Author.Needs.{needs}
 use Rattle.pens.proofs.PenLaws.{no-words}
 use Rattle.message.specs.Reports.{endingWords}

@@ -1,4 +1,4 @@
--- `put_intensity` meets its contract: the word is that of `intensity_word`. Assumes nothing.
+-- `put_intensity` meets its contract: the word is that of `intensity_word`.
 use borrow.Author.Needs.{needs}
 use Rattle.pens.proofs.PenLaws.{renamed}
 use Rattle.writer_sections.proofs.ending.put_intensity.Statement.{statement}

@@ -1,4 +1,4 @@
--- `put_moving` meets its contract: its words, one behind the other. Assumes nothing.
+-- `put_moving` meets its contract: its words, one behind the other.
 use borrow.Author.Needs.{needs}
 use Rattle.vocabulary.proofs.FixedWords.{fixed-mov}
 use Rattle.writer_sections.proofs.Sentences.{word, word-renamed, word-fixed}

@@ -1,4 +1,4 @@
--- `put_speed` meets its contract: figures and unit go on from the space. Assumes nothing.
+-- `put_speed` meets its contract: figures and unit go on from the space.
 use borrow.Author.Needs.{needs}
 use Rattle.motions.specs.Speeds.{spellSpeed}
 use Rattle.pens.proofs.PenLaws.{then}

@@ -1,4 +1,4 @@
--- `unit_word` meets its contract: each number has its word, and no other number has one. Assumes nothing.
+-- `unit_word` meets its contract: each number has its word, and no other number has one.
 use Rattle.figures.specs.Codes.{behindOne}
 use Rattle.motions.specs.Speeds.{unitWords}
 use Rattle.writer_sections.proofs.Tables.{unnumbered}

@@ -1,4 +1,4 @@
--- `put_first_line` meets its contract: its words, one behind the other. Assumes nothing.
+-- `put_first_line` meets its contract: its words, one behind the other.
 use borrow.Author.Needs.{needs}
 use Rattle.figures.specs.Codes.{behindOne}
 use Rattle.pens.proofs.PenLaws.{a-line}

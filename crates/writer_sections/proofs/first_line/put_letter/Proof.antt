@@ -1,4 +1,4 @@
--- `put_letter` meets its contract: none has no byte, and a letter has itself. Assumes nothing.
+-- `put_letter` meets its contract: none has no byte, and a letter has itself.
 use borrow.Author.Needs.{needs}
 use Rattle.writer_sections.proofs.SectionLaws.{no-letter, a-letter}
 use Rattle.writer_sections.proofs.first_line.put_letter.Statement.{statement}

@@ -1,4 +1,4 @@
--- `put_office` meets its contract: the hyphen goes on from the letters. Assumes nothing.
+-- `put_office` meets its contract: the hyphen goes on from the letters.
 use borrow.Author.Needs.{needs}
 use Rattle.pens.proofs.PenLaws.{goes-on}
 use Rattle.writer_sections.proofs.first_line.put_office.Statement.{statement}

@@ -1,4 +1,4 @@
--- `put_period` meets its contract: group, `/` and group go on from the space. Assumes nothing.
+-- `put_period` meets its contract: group, `/` and group go on from the space.
 use borrow.Author.Needs.{needs}
 use Rattle.groups.specs.Groups.{spellPeriod}
 use Rattle.pens.proofs.PenLaws.{then}

@@ -1,4 +1,4 @@
--- `put_sequence` meets its contract: letter and figures go on from the space. Assumes nothing.
+-- `put_sequence` meets its contract: letter and figures go on from the space.
 use borrow.Author.Needs.{needs}
 use Rattle.headings.specs.Sequences.{spellSequence}
 use Rattle.pens.proofs.PenLaws.{then}

@@ -1,4 +1,4 @@
--- `put_form` meets its contract: each form has its words. Assumes nothing.
+-- `put_form` meets its contract: each form has its words.
 use borrow.Author.Needs.{needs}
 use Rattle.pens.proofs.PenLaws.{no-words}
 use Rattle.message.specs.Words.{formWords}

@@ -1,4 +1,4 @@
--- `put_test` meets its contract: each number has its words. Assumes nothing.
+-- `put_test` meets its contract: each number has its words.
 use borrow.Author.Needs.{needs}
 use Rattle.figures.specs.Codes.{behindOne}
 use Rattle.message.specs.Words.{testTexts}

@@ -1,4 +1,4 @@
--- `put_correction` meets its contract: none has no word, and a letter goes behind `CC`. Assumes nothing.
+-- `put_correction` meets its contract: none has no word, and a letter goes behind `CC`.
 use borrow.Author.Needs.{needs}
 use Rattle.writer_sections.proofs.SectionLaws.{no-correction, a-correction}
 use Rattle.writer_sections.proofs.heading.put_correction.Statement.{statement}

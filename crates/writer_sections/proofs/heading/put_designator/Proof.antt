@@ -1,4 +1,4 @@
--- `put_designator` meets its contract: type, letters and figures, one behind the other. Assumes nothing.
+-- `put_designator` meets its contract: type, letters and figures, one behind the other.
 use borrow.Author.Needs.{needs}
 use Rattle.headings.specs.Headings.{spellDesignator}
 use Rattle.pens.proofs.PenLaws.{then}

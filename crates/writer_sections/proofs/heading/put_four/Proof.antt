@@ -1,4 +1,4 @@
--- `put_four` meets its contract: the letters go on from the space. Assumes nothing.
+-- `put_four` meets its contract: the letters go on from the space.
 use borrow.Author.Needs.{needs}
 use Rattle.writer_sections.proofs.Sentences.{spaced-word}
 use Rattle.writer_sections.proofs.heading.put_four.Statement.{statement}

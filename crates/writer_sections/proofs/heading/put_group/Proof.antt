@@ -1,4 +1,4 @@
--- `put_group` meets its contract: day, hour and minute, one behind the other. Assumes nothing.
+-- `put_group` meets its contract: day, hour and minute, one behind the other.
 use borrow.Author.Needs.{needs}
 use Rattle.groups.specs.Groups.{spellGroup}
 use Rattle.pens.proofs.PenLaws.{then}

@@ -1,4 +1,4 @@
--- `put_sent` meets its contract: the group goes on from the space. Assumes nothing.
+-- `put_sent` meets its contract: the group goes on from the space.
 use borrow.Author.Needs.{needs}
 use Rattle.writer_sections.proofs.Sentences.{spaced-word}
 use Rattle.writer_sections.proofs.heading.put_sent.Statement.{statement}

@@ -1,4 +1,4 @@
--- `type_word` meets its contract: each kind has its word, and no other number has one. Assumes nothing.
+-- `type_word` meets its contract: each kind has its word, and no other number has one.
 use Rattle.figures.specs.Codes.{behindOne}
 use Rattle.headings.specs.Headings.{typeWords}
 use Rattle.writer_sections.proofs.Tables.{unnumbered}

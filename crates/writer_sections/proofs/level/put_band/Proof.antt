@@ -1,4 +1,4 @@
--- `put_band` meets its contract: `/` and three figures go on from the lower level. Assumes nothing.
+-- `put_band` meets its contract: `/` and three figures go on from the lower level.
 use borrow.Author.Needs.{needs}
 use Rattle.figures.specs.Codes.{behindOne}
 use Rattle.pens.proofs.PenLaws.{then, goes-on}

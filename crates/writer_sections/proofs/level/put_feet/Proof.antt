@@ -1,4 +1,4 @@
--- `put_feet` meets its contract: `FT` goes on from the figures, which are as many as the number asks. Assumes nothing.
+-- `put_feet` meets its contract: `FT` goes on from the figures, which are as many as the number asks.
 use borrow.Author.Needs.{needs}
 use Rattle.figures.specs.Codes.{behindOne}
 use Rattle.pens.proofs.PenLaws.{goes-on}

@@ -1,4 +1,4 @@
--- `put_flight` meets its contract: three figures go on from what stands before. Assumes nothing.
+-- `put_flight` meets its contract: three figures go on from what stands before.
 use borrow.Author.Needs.{needs}
 use Rattle.pens.proofs.PenLaws.{goes-on}
 use Rattle.writer_sections.proofs.level.put_flight.Statement.{statement}

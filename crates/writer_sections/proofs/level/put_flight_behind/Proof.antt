@@ -1,4 +1,4 @@
--- `put_flight_behind` meets its contract: the word, and the flight level behind it. Assumes nothing.
+-- `put_flight_behind` meets its contract: the word, and the flight level behind it.
 use borrow.Author.Needs.{needs}
 use Rattle.figures.specs.Codes.{behindOne}
 use Rattle.writer_sections.proofs.Sentences.{word}

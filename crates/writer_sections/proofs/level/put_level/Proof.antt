@@ -1,4 +1,4 @@
--- `put_level` meets its contract: each level has its words. Assumes nothing.
+-- `put_level` meets its contract: each level has its words.
 use borrow.Author.Needs.{needs}
 use Rattle.figures.specs.Codes.{behindOne}
 use Rattle.levels.specs.Levels.{levelWords, spellLevelWord}

@@ -1,4 +1,4 @@
--- `put_metres` meets its contract: `M` goes on from the figures. Assumes nothing.
+-- `put_metres` meets its contract: `M` goes on from the figures.
 use borrow.Author.Needs.{needs}
 use Rattle.pens.proofs.PenLaws.{goes-on}
 use Rattle.writer_sections.proofs.level.put_metres.Statement.{statement}

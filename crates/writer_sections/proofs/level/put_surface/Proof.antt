@@ -1,4 +1,4 @@
--- `put_surface` meets its contract: the figures go on from `SFC/`. Assumes nothing.
+-- `put_surface` meets its contract: the figures go on from `SFC/`.
 use borrow.Author.Needs.{needs}
 use Rattle.figures.specs.Codes.{behindOne}
 use Rattle.pens.proofs.PenLaws.{goes-on}

@@ -1,4 +1,4 @@
--- `put_top_above` meets its contract: the word, and the words behind it. Assumes nothing.
+-- `put_top_above` meets its contract: the word, and the words behind it.
 use borrow.Author.Needs.{needs}
 use Rattle.figures.specs.Codes.{behindOne}
 use Rattle.writer_sections.proofs.Sentences.{word}

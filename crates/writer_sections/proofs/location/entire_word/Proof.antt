@@ -1,4 +1,4 @@
--- `entire_word` meets its contract: a CTA has its own word, and any other area `FIR`. Assumes nothing.
+-- `entire_word` meets its contract: a CTA has its own word, and any other area `FIR`.
 use borrow.Author.Tests.{ne-eqb}
 use Rattle.figures.specs.Codes.{behindOne}
 use Rattle.message.specs.Limits.{cta}

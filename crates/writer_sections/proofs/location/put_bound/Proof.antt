@@ -1,4 +1,4 @@
--- `put_bound` meets its contract: a latitude, a longitude or both; a side without a letter is none. Assumes nothing.
+-- `put_bound` meets its contract: a latitude, a longitude or both; a side without a letter is none.
 use borrow.Author.Needs.{needs}
 use Rattle.figures.specs.Codes.{behindOne}
 use Rattle.coordinates.specs.Coordinates.{spellCoordinate}

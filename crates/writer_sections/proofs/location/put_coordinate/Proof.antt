@@ -1,4 +1,4 @@
--- `put_coordinate` meets its contract: letter and figures go on from the space; minutes where they were written. Assumes nothing.
+-- `put_coordinate` meets its contract: letter and figures go on from the space; minutes where they were written.
 use borrow.Author.Needs.{needs}
 use Rattle.writer_sections.proofs.SectionLaws.{in-degrees, in-minutes}
 use Rattle.writer_sections.proofs.location.put_coordinate.Statement.{statement}

@@ -1,4 +1,4 @@
--- `put_entire` meets its contract: the word, and that of `entire_word`. Assumes nothing.
+-- `put_entire` meets its contract: the word, and that of `entire_word`.
 use borrow.Author.Needs.{needs}
 use Rattle.figures.specs.Codes.{behindOne}
 use Rattle.pens.proofs.PenLaws.{renamed}

@@ -1,4 +1,4 @@
--- `put_extent` meets its contract: each location has its words. Assumes nothing.
+-- `put_extent` meets its contract: each location has its words.
 use borrow.Author.Needs.{needs}
 use Rattle.pens.proofs.PenLaws.{no-words}
 use Rattle.writer_sections.proofs.RecordLaws.{bounded, outline-least, outline-most}

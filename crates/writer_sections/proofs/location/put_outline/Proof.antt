@@ -1,4 +1,4 @@
--- `put_outline` meets its contract: `WI`, and the points behind it. Assumes nothing.
+-- `put_outline` meets its contract: `WI`, and the points behind it.
 use borrow.Author.Needs.{needs}
 use Rattle.figures.specs.Codes.{behindOne}
 use Rattle.writer_sections.proofs.Sentences.{word}

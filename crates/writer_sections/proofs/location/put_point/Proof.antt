@@ -1,4 +1,4 @@
--- `put_point` meets its contract: latitude and longitude, one behind the other. Assumes nothing.
+-- `put_point` meets its contract: latitude and longitude, one behind the other.
 use borrow.Author.Needs.{needs}
 use Rattle.coordinates.specs.Coordinates.{spellCoordinate}
 use Rattle.writer_sections.proofs.Sentences.{word}

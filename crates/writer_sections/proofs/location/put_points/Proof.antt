@@ -1,4 +1,4 @@
--- `put_points` meets its contract: behind the first point come the others, a `-` before each. Assumes nothing.
+-- `put_points` meets its contract: behind the first point come the others, a `-` before each.
 use borrow.Author.Needs.{needs}
 use mathlib.Core.Path.{_≡_, refl}
 use Prim.Native.Nat.{_-_, _≤_}

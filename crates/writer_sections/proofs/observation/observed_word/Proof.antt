@@ -1,4 +1,4 @@
--- `observed_word` meets its contract: number 1 is `OBS`, and any other `FCST`. Assumes nothing.
+-- `observed_word` meets its contract: number 1 is `OBS`, and any other `FCST`.
 use borrow.Author.Tests.{ne-eqb}
 use Rattle.figures.specs.Codes.{behindOne}
 use Rattle.writer_sections.proofs.observation.observed_word.Statement.{statement}

@@ -1,4 +1,4 @@
--- `put_observation` meets its contract: its word, and the time where one is given. Assumes nothing.
+-- `put_observation` meets its contract: its word, and the time where one is given.
 use borrow.Author.Needs.{needs}
 use Rattle.vocabulary.proofs.FixedWords.{fixed-at}
 use Rattle.writer_sections.proofs.SectionLaws.{untimed, timed}

@@ -1,4 +1,4 @@
--- `put_time` meets its contract: hour, minute and `Z` go on from the space. Assumes nothing.
+-- `put_time` meets its contract: hour, minute and `Z` go on from the space.
 use borrow.Author.Needs.{needs}
 use Rattle.groups.specs.Groups.{spellTime}
 use Rattle.pens.proofs.PenLaws.{then}

@@ -1,4 +1,4 @@
--- `first_word` meets its contract: each stretch of numbers has its word. Assumes nothing.
+-- `first_word` meets its contract: each stretch of numbers has its word.
 use mathlib.Core.Path.{refl}
 use native.Mathlib.Omega.{arith}
 use Rattle.lists.specs.Lists.{same}

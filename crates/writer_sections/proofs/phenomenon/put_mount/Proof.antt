@@ -1,4 +1,4 @@
--- `put_mount` meets its contract: no count is no name, and a name goes behind `MT`. Assumes nothing.
+-- `put_mount` meets its contract: no count is no name, and a name goes behind `MT`.
 use borrow.Author.Needs.{needs}
 use Rattle.figures.specs.Codes.{behindOne}
 use Rattle.writer_sections.proofs.SectionLaws.{no-mount, a-mount, mount-fits}

@@ -1,4 +1,4 @@
--- `put_named` meets its contract: a phenomenon has two words, and `SEV ICE (FZRA)` a third. Assumes nothing.
+-- `put_named` meets its contract: a phenomenon has two words, and `SEV ICE (FZRA)` a third.
 use borrow.Author.Needs.{needs}
 use Rattle.vocabulary.proofs.FixedWords.{fixed-freezing-rain}
 use Rattle.writer_sections.proofs.SectionLaws.{two-named, three-named, eruption-named}

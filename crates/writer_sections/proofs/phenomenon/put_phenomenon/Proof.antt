@@ -1,4 +1,4 @@
--- `put_phenomenon` meets its contract: its words, and the volcano of an eruption. Assumes nothing.
+-- `put_phenomenon` meets its contract: its words, and the volcano of an eruption.
 use borrow.Author.Needs.{needs}
 use Rattle.writer_sections.proofs.SectionLaws.{phenomenon-number, has-volcano, erupted, not-erupted}
 use Rattle.writer_sections.proofs.phenomenon.put_phenomenon.Statement.{statement}

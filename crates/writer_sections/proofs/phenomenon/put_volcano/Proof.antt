@@ -1,4 +1,4 @@
--- `put_volcano` meets its contract: its words, one behind the other. Assumes nothing.
+-- `put_volcano` meets its contract: its words, one behind the other.
 use borrow.Author.Needs.{needs}
 use Rattle.figures.specs.Codes.{behindOne}
 use Rattle.pens.proofs.PenLaws.{and-then}

@@ -1,4 +1,4 @@
--- `second_word` meets its contract: each number or stretch of numbers has its word. Assumes nothing.
+-- `second_word` meets its contract: each number or stretch of numbers has its word.
 use mathlib.Core.Logic.{inl, inr}
 use mathlib.Core.Path.{refl}
 use Prim.Native.Nat.{_≤_}

@@ -1,4 +1,4 @@
--- `put_report` meets its contract: its words, one section behind the other. Assumes nothing.
+-- `put_report` meets its contract: its words, one section behind the other.
 use borrow.Author.Needs.{needs}
 use Rattle.pens.proofs.PenLaws.{and-then}
 use Rattle.message.specs.Reports.{reportWords}
