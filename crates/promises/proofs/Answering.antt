@@ -1,53 +1,28 @@
 -- The number of a post is the one whose cause the history and the record give, and it has no other.
-use mathlib.Core.Path.{_≡_, refl, sym, subst}
+use mathlib.Core.Path.{_≡_, refl, sym}
 use Prim.Native.Nat.{ℕ, _≤_, _<_}
 use native.Mathlib.Omega.{arith}
-use lib.Dec.{leb, ltb}
-use borrow.Author.Tests.{leb-true, leb-false, ltb-true, ltb-false}
+use lib.Dec.{leb}
+use borrow.Author.Tests.{leb-true, leb-false}
 use Rattle.lists.proofs.Choice.{by, clash}
 use Rattle.message.specs.declared.Record.{Record}
 use Rattle.places.specs.declared.Identity.{Identity}
 use Rattle.places.specs.declared.Place.{Place}
-use Rattle.board.specs.Boards.{inRange, refusalAt}
 use Rattle.board.specs.Posts.{dropped, postOf}
 use Rattle.board.specs.declared.Board.{Board}
 use Rattle.promises.specs.Calls.{History}
 use Rattle.promises.specs.Accepted.{IsReport, Reported, Known, lastClock}
 use Rattle.promises.specs.Accepted.Known.{by-report, by-cancellation}
-use Rattle.promises.specs.Refusals.{Refuses, Accepts, InRange, Concerns, Already, NoRoom, Unplaced}
+use Rattle.promises.specs.Refusals.{Refuses, Accepts, Concerns, Already, NoRoom, Unplaced}
 use Rattle.promises.specs.Refusals.Refuses.{given, passed}
 use Rattle.promises.specs.Refusals.Concerns.{reports, cancels}
 use Rattle.promises.specs.Refusals.Already.{held, again}
 use Rattle.promises.specs.Answers.{Timely, Full, foundAfter, PostAnswered}
 use Rattle.promises.proofs.Messages.{one-identity, fit}
 use Rattle.promises.proofs.Held.{On, on-dropped}
-use Rattle.promises.proofs.Refusing.{past, one-answer, range-in, in-range, range-out, Knows, outside as refused-outside, early as refused-early, timely as refused-not, answered}
+use Rattle.promises.proofs.Refusing.{past, one-answer, Knows, answered}
 use Rattle.promises.proofs.Tracks.{Stands, Tracks, stands-later, stands-unnamed, stands-named, stands-as}
 use Rattle.promises.proofs.Room.{holds-on, not-full, is-full}
-
--- "36 …; 16 clock outside its range; 17 clock before the board's": of posts and listings alike.
-
-pub data Clocked (h : History) (clock : ℕ) : ℕ → Type 0 where
-  outside : (InRange clock → ⊥) → Clocked h clock 16
-  early : InRange clock → clock < lastClock h → Clocked h clock 17
-  timely : Timely h clock → Clocked h clock 0
-
-module _ {h : History} {b : Board} (t : Tracks h b) (clock : ℕ) where
-  clocked-is : {n : ℕ} → Clocked h clock n → refusalAt b clock ≡ n
-  clocked-is (outside o) = refused-outside b clock (t .sound) (range-out clock o)
-  clocked-is (early r l) = refused-early b clock (t .sound) (range-in clock r) (omega (arith, l, t .clock))
-  clocked-is (timely y) = refused-not b clock (t .sound) (range-in clock (y .ranged)) (omega (arith, y .no-earlier, t .clock))
-
-  clock-cause : (n : ℕ) × Clocked h clock n
-  clock-cause =
-      by (inRange clock)
-      (λ u. by (ltb clock (lastClock h))
-      (λ v. (17, early (in-range clock u) (ltb-true clock (lastClock h) v)))
-      (λ f. (0, timely (record { ranged = in-range clock u; no-earlier = ltb-false clock (lastClock h) f }))))
-      (λ f. (16, outside (λ r. clash (inRange clock) (range-in clock r) f)))
-
-  pub clocked : Clocked h clock (refusalAt b clock)
-  clocked = let c = clock-cause in subst (λ (n : ℕ). Clocked h clock n) (sym (clocked-is (c .1))) (c .1)
 
 -- What a post finds.
 

@@ -19,14 +19,13 @@ use Rattle.promises.specs.Calls.Call.{posted, listed}
 use Rattle.promises.specs.Calls.Run.{begun, then-posted, then-listed}
 use Rattle.promises.specs.InForce.{IsListing, ListAnswered}
 use Rattle.listing.specs.Listings.{listing}
-use Rattle.promises.specs.InForce.ListAnswered.{outside, early, short, whole}
 use Rattle.promises.specs.Demand2.{Says}
 use Rattle.promises.specs.Demand3.{Demand3}
 use Rattle.promises.specs.Frauds.{MeetsDemand2, RefusesEverything, OneFixedRecord, FraudsExcluded}
 use Rattle.promises.specs.Starred.{hex, inPairs, page}
 use Rattle.promises.proofs.Histories.{may-begin, demand-3}
 use Rattle.promises.proofs.Contracts.{may-read, demand-2}
-use Rattle.promises.proofs.Listing.{one-listing}
+use Rattle.promises.proofs.Listing.{one-end, forced-formed, one-listing}
 use Rattle.promises.proofs.StarredLaws.{samplePlace, cancelledPlace, boardAt, sampleRecord, sample-posted, sample-cancelled, listed-meanwhile, listed-cancelled}
 
 -- Readers.
@@ -52,29 +51,7 @@ two-records : sample ≡ cancelling → ⊥
 unfolding sample
 two-records e = absurd (omega (arith, ap (λ (r : Record). r .line .sequence .number) e))
 
--- Boards: the answer to a listing is one.
-
-one-listing-only : {h : History} {time m n j k : ℕ} {buffer x y : List ℕ} → ListAnswered h time buffer m j x → ListAnswered h time buffer n k y
-    → _≡_ {A = Wrote} (record { number = m; count = j; buffer = x }) (record { number = n; count = k; buffer = y })
-one-listing-only (outside o) (outside p) = refl
-one-listing-only (outside o) (early r l) = absurd (o r)
-one-listing-only (outside o) (short y i l) = absurd (o (y .ranged))
-one-listing-only (outside o) (whole y i l) = absurd (o (y .ranged))
-one-listing-only (early r l) (outside p) = absurd (p r)
-one-listing-only (early r l) (early q k) = refl
-one-listing-only (early r l) (short y i k) = absurd (omega (arith, l, y .no-earlier))
-one-listing-only (early r l) (whole y i k) = absurd (omega (arith, l, y .no-earlier))
-one-listing-only (short y i l) (outside p) = absurd (p (y .ranged))
-one-listing-only (short y i l) (early r k) = absurd (omega (arith, k, y .no-earlier))
-one-listing-only (short y i l) (short z j k) = refl
-one-listing-only {h} {time} (short y i l) (whole z j k) =
-    absurd (omega (arith, l, k, ap (λ (v : List Place). length (listing time v)) (one-listing i j)))
-one-listing-only (whole y i l) (outside p) = absurd (p (y .ranged))
-one-listing-only (whole y i l) (early r k) = absurd (omega (arith, k, y .no-earlier))
-one-listing-only {h} {time} (whole y i l) (short z j k) =
-    absurd (omega (arith, l, k, ap (λ (v : List Place). length (listing time v)) (one-listing i j)))
-one-listing-only {h} {time} {buffer = buffer} (whole y i l) (whole z j k) =
-    ap (λ (v : List Place). record { number = 0; count = length (listing time v); buffer = listing time v ++ drop (length (listing time v)) buffer }) (one-listing i j)
+-- Boards.
 
 -- what can happen with one board that meets demand 3 can happen with any other that does
 follows : {A B : History → Type 0} → Demand3 A → Demand3 B → (h : History) → A h → B h
@@ -85,7 +62,9 @@ follows {A} {B} a b (posted clock r answer ∷ h) x =
     subst (λ (n : ℕ). B (posted clock r n ∷ h)) (sym same) (y .1)
 follows {A} {B} a b (listed time buffer answer count after ∷ h) x =
     let y = b .listing-answered h (follows a b h (a .earlier (listed time buffer answer count after) h x)) time buffer in
-    let same = one-listing-only (a .lists h time buffer answer count after x) (b .lists h time buffer (y .0) (y .1) (y .2) (y .3)) in
+    let same =
+    one-end (λ n. forced-formed) (record { number = answer; count = count; buffer = after }) (record { number = y .0; count = y .1; buffer = y .2 })
+    (a .lists h time buffer answer count after x) (b .lists h time buffer (y .0) (y .1) (y .2) (y .3)) in
     subst (λ (t : Wrote). B (listed time buffer (t .number) (t .count) (t .buffer) ∷ h)) (sym same) (y .3)
 
 -- The paper's cases as histories.
@@ -122,11 +101,8 @@ two-listings : withIt ≡ withoutIt → ⊥
 unfolding inPairs
 two-listings e = absurd (omega (arith, ap (λ (x : List ℕ). getD x 5 0) e))
 
-counted : {h : History} {time n count : ℕ} {buffer after : List ℕ} → ListAnswered h time buffer n count after → n ≡ 0 → (rows : List Place) → IsListing h time rows → count ≡ length (listing time rows)
-counted (outside o) e rows i = absurd (omega (arith, e))
-counted (early x l) e rows i = absurd (omega (arith, e))
-counted (short y j l) e rows i = absurd (omega (arith, e))
-counted {h} {time} (whole y j l) e rows i = ap (λ (v : List Place). length (listing time v)) (one-listing j i)
+counted : {h : History} {time count : ℕ} {buffer after : List ℕ} → ListAnswered h time buffer 0 count after → (rows : List Place) → IsListing h time rows → count ≡ length (listing time rows)
+counted {time = time} x rows i = let w = x .whole refl in w .counted ∙ ap (λ (v : List Place). length (listing time v)) (one-listing (w .listed) i)
 
 pub frauds-excluded : FraudsExcluded
 frauds-excluded =
@@ -143,6 +119,6 @@ frauds-excluded =
           two-listings (f 12648030 12648180 sample cancelling 0 12648180 (page 22) 22 5 withIt withoutIt
           (follows demand-3 d (listed 12648180 (page 22) 0 22 withIt ∷ afterSample) lists-it)
           (follows demand-3 d (listed 12648180 (page 22) 0 5 withoutIt ∷ afterCancellation) lists-it-not));
-      made-up-count = λ Can d h time buffer count after c. counted (d .lists h time buffer 0 count after c) refl;
+      made-up-count = λ Can d h time buffer count after c. counted (d .lists h time buffer 0 count after c);
       no-other-board = λ Can d h. (follows d demand-3 h, follows demand-3 d h);
     }

@@ -14,7 +14,7 @@ use Rattle.places.specs.declared.Identity.{Identity}
 use Rattle.places.specs.declared.Place.{Place}
 use Rattle.listing.specs.Order.{Precedes}
 use Rattle.listing.specs.Rows.{rowsOf}
-use Rattle.pens.specs.Outcomes.{Wrote}
+use Rattle.pens.specs.Outcomes.{Wrote, written}
 use Rattle.listing.specs.Answers.{listOf}
 use Rattle.listing.proofs.ListLaws.{count-most}
 use Rattle.listing.proofs.OrderLaws.{precedes-irreflexive}
@@ -26,13 +26,12 @@ use Rattle.promises.specs.Refusals.{Concerns}
 use Rattle.promises.specs.Answers.{Timely, Full, PostAnswered}
 use Rattle.promises.specs.InForce.{IsListing, ListAnswered}
 use Rattle.listing.specs.Listings.{listing}
-use Rattle.promises.specs.InForce.ListAnswered.{outside, early, short, whole}
 use Rattle.promises.specs.Demand3.{Demand3}
 use Rattle.promises.proofs.Messages.{one-identity}
 use Rattle.promises.proofs.Tracks.{tracked}
 use Rattle.promises.proofs.Room.{lasting-most}
 use Rattle.promises.proofs.Answering.{answer-cause, cause-answer, later, only-room, new-full, new-accepted}
-use Rattle.promises.proofs.Listing.{in-numbers, rows-listed, listed-most, one-listing, list-cause}
+use Rattle.promises.proofs.Listing.{in-numbers, one-end, whole-ends, forced-formed, one-listing, rows-listed, listed-most, list-cause}
 
 -- What the contracts allow.
 
@@ -98,14 +97,11 @@ lists h time buffer answer count after hp =
 module _ {h : History} {time : ℕ} {buffer : List ℕ} where
   exactly : {answer count : ℕ} {after : List ℕ} → ListAnswered h time buffer answer count after → Timely h time → (rows : List Place) → IsListing h time rows
       → length (listing time rows) ≤ length buffer → (answer ≡ 0) × (count ≡ length (listing time rows)) × (after ≡ listing time rows ++ drop (length (listing time rows)) buffer)
-  exactly (outside o) y rows i room = absurd (o (y .ranged))
-  exactly (early x l) y rows i room = absurd (omega (arith, l, y .no-earlier))
-  exactly (short {rows = xs} z j l) y rows i room =
-      let same : length (listing time xs) ≡ length (listing time rows) = ap (λ (v : List Place). length (listing time v)) (one-listing j i) in
-      absurd (omega (arith, l, room, same))
-  exactly (whole {rows = xs} z j l) y rows i room =
-      let same : xs ≡ rows = one-listing j i in
-      (refl, ap (λ (v : List Place). length (listing time v)) same, ap (λ (v : List Place). listing time v ++ drop (length (listing time v)) buffer) same)
+  exactly {answer} {count} {after} x y rows i room =
+      let same : record { number = answer; count = count; buffer = after } ≡ written (listing time rows) buffer =
+      one-end (λ n. forced-formed) (record { number = answer; count = count; buffer = after }) (written (listing time rows) buffer)
+      x (whole-ends (λ z. z) (y .ranged) (y .no-earlier) i forced-formed room) in
+      (ap (λ (u : Wrote). u .number) same, ap (λ (u : Wrote). u .count) same, ap (λ (u : Wrote). u .buffer) same)
 
 earlier : (call : Call) (h : History) → Happens (call ∷ h) → Happens h
 earlier (posted clock r answer) h hp = let l = last-post (hp .run) in record { board = l .board; run = l .run }
@@ -155,7 +151,7 @@ demand-3 =
       one-rows = λ h time xs ys. one-listing;
       none-twice =
           λ h time rows i.
-          Pairwise·imp {S = λ (p q : Place). p .identity ≡ q .identity → ⊥} (λ p q o e. precedes-irreflexive (subst (λ (x : Identity). Precedes x (q .identity)) e o)) (in-numbers i);
+          Pairwise·imp {S = λ (p q : Place). p .identity ≡ q .identity → ⊥} (λ p q o e. precedes-irreflexive (subst (λ (x : Identity). Precedes x (q .identity)) e o)) (in-numbers forced-formed i);
       never-more =
           λ h hp time l rows i.
           let t = tracked (hp .run) in

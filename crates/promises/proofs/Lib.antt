@@ -14,3 +14,4 @@ pub mod StarredLaws
 pub mod FraudLaws
 pub mod FunctionLaws
 pub mod BoardAnswers
+pub mod BoardListings

@@ -32,7 +32,7 @@ use Rattle.promises.proofs.Held.Goes.{has, free, full}
 -- One number.
 
 module _ {number : ℕ} {cause : Type 0} {behind : ℕ → Type 0} where
-  one-number : ((m n : ℕ) → behind m → behind n → m ≡ n) → (m n : ℕ) → Refuses number cause behind m → Refuses number cause behind n → m ≡ n
+  pub one-number : ((m n : ℕ) → behind m → behind n → m ≡ n) → (m n : ℕ) → Refuses number cause behind m → Refuses number cause behind n → m ≡ n
   one-number one m n (given c) (given d) = refl
   one-number one m n (given c) (passed u y) = absurd (u c)
   one-number one m n (passed u x) (given c) = absurd (u c)
@@ -62,9 +62,6 @@ range-in clock r = both-true (le-leb 1440 clock (r .from)) (le-leb clock 5259167
 
 pub in-range : (clock : ℕ) → inRange clock ≡ true → InRange clock
 in-range clock t = record { from = between-low 1440 52591679 clock t; until = between-high 1440 52591679 clock t }
-
-pub range-out : (clock : ℕ) → (InRange clock → ⊥) → inRange clock ≡ false
-range-out clock o = by (inRange clock) (λ t. absurd (o (in-range clock t))) (λ f. f)
 
 -- What is known of the places that are left after the dropping.
 pub record Knows (left : List Place) (clock : ℕ) (f : Found) : Type 0 where

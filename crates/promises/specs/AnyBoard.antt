@@ -4,9 +4,10 @@
 -- Demand 3 speaks of the boards that calls lead to; this of any board, wherever it came from, by its clock and its 64 places.
 -- Believed.
 use mathlib.Core.Bool.{true, false}
+use mathlib.Core.List.{List}
 use mathlib.Core.Logic.{_↔_}
 use mathlib.Core.Path.{_≡_}
-use Prim.Native.Nat.{ℕ, _<_}
+use Prim.Native.Nat.{ℕ, _≤_, _<_}
 use lib.Dec.{leb}
 use lib.ListN.{length, getD}
 use Rattle.lists.specs.Choice.{pick}
@@ -16,9 +17,10 @@ use Rattle.places.specs.declared.Identity.{Identity}
 use Rattle.places.specs.declared.Place.{Place}
 use Rattle.board.specs.Boards.{placeCount, goodBoard}
 use Rattle.board.specs.declared.Board.{Board}
-use Rattle.promises.specs.Calls.{MayPost}
+use Rattle.promises.specs.Calls.{MayPost, MayList}
 use Rattle.promises.specs.Accepted.{IsReport, IsCancellation}
 use Rattle.promises.specs.Refusals.{Found, Answered}
+use Rattle.promises.specs.InForce.{AllInOrder, Lists}
 
 -- a place by its number, from 0 to 63
 abbrev pub placeOf : Board → ℕ → Place
@@ -81,3 +83,30 @@ pub record PostsOnAnyBoard : Type 0 where
   -- accepted: the board takes the message, and no other board is what it then is
   pub takes : (b after : Board) (clock : ℕ) (r : Record) → MayPost b clock r 0 after → Takes b clock r after
   pub one-after : (b after other : Board) (clock : ℕ) (r : Record) → MayPost b clock r 0 after → Takes b clock r other → other ≡ after
+
+-- Listings: "Listing changes no board.", so there is only the answer.
+
+-- "A message is listed when start <= time < end." "Marked places are never listed": what one of the 64 places shows at the time; an empty one
+-- ends at 0, and so shows nothing
+pub record Shown (b : Board) (time : ℕ) (p : Place) : Type 0 where
+  pub at : ℕ
+  pub within : at < placeCount
+  pub there : placeOf b at ≡ p
+  pub unmarked : p .marked ≡ false
+  pub begun : p .identity .start ≤ time
+  pub lasting : time < p .identity .end
+
+-- the rows of a listing of the board, and its answer
+abbrev pub IsListingOn : Board → ℕ → List Place → Type 0
+IsListingOn b time = AllInOrder (Shown b time)
+
+abbrev pub ListAnsweredOn : Board → ℕ → List ℕ → ℕ → ℕ → List ℕ → Type 0
+ListAnsweredOn b time = Lists (goodBoard b ≡ false) (b .clock) (Shown b time) time
+
+pub record ListsOnAnyBoard : Type 0 where
+  -- number, count and buffer are exactly those
+  pub lists : (b : Board) (time : ℕ) (buffer : List ℕ) (answer count : ℕ) (after : List ℕ)
+      → MayList b time buffer answer count after ↔ ListAnsweredOn b time buffer answer count after
+  -- on a good board there are such rows, and only these
+  pub some-rows : (b : Board) (time : ℕ) → goodBoard b ≡ true → (rows : List Place) × IsListingOn b time rows
+  pub one-rows : (b : Board) (time : ℕ) → goodBoard b ≡ true → (xs ys : List Place) → IsListingOn b time xs → IsListingOn b time ys → xs ≡ ys

@@ -1,7 +1,7 @@
 -- Demand 3: "asked at a time in its range, no earlier than the last post it accepted, with room for the answer, the board lists exactly the
 -- weather reports accepted so far, by latest accepted correction, whose period holds that time and which no accepted cancellation names. None
--- is listed twice, the order is fixed". And 01, "Listing: 36, 16, 17, then 14 (count 0, buffer untouched)."; 36 has no cause here either: no
--- history leads to a bad board.
+-- is listed twice, the order is fixed". And 01, "Listing: 36, 16, 17, then 14 (count 0, buffer untouched)."; 36 has no cause after a
+-- history: none leads to a bad board.
 -- Believed.
 use mathlib.Core.Bool.{false}
 use mathlib.Core.List.{List, _++_, List·Memᴰ, Pairwise}
@@ -12,8 +12,7 @@ use Rattle.places.specs.declared.Place.{Place}
 use Rattle.listing.specs.Listings.{listing}
 use Rattle.promises.specs.Calls.{History}
 use Rattle.promises.specs.Accepted.{Reported, Cancelled, lastClock}
-use Rattle.promises.specs.Refusals.{InRange}
-use Rattle.promises.specs.Answers.{Timely}
+use Rattle.promises.specs.Refusals.{Refuses, Accepts, InRange}
 use Rattle.promises.specs.Order.{InOrder}
 
 -- A row, an identity with a correction, is in force at the time: it was reported, with no later correction, no accepted cancellation names
@@ -26,16 +25,40 @@ pub record InForce (h : History) (time : ℕ) (p : Place) : Type 0 where
   pub lasting : time < p .identity .end
   pub unmarked : p .marked ≡ false
 
--- The rows listed: those in force and all of them, strictly in the order, and so none twice; `List·Memᴰ p rows`: p stands in the rows.
-pub record IsListing (h : History) (time : ℕ) (rows : List Place) : Type 0 where
-  pub those : (p : Place) → List·Memᴰ p rows → InForce h time p
-  pub all : (p : Place) → InForce h time p → List·Memᴰ p rows
+-- The rows listed: those that are shown and all of them, strictly in the order, and so none twice; `List·Memᴰ p rows`: p stands in the rows.
+pub record AllInOrder (shown : Place → Type 0) (rows : List Place) : Type 0 where
+  pub those : (p : Place) → List·Memᴰ p rows → shown p
+  pub all : (p : Place) → shown p → List·Memᴰ p rows
   pub ordered : Pairwise InOrder rows
 
--- the answer to a listing after the history: its number, its count and its buffer
-pub data ListAnswered (h : History) (time : ℕ) (buffer : List ℕ) : (answer count : ℕ) (after : List ℕ) → Type 0 where
-  outside : (InRange time → ⊥) → ListAnswered h time buffer 16 0 buffer
-  early : InRange time → time < lastClock h → ListAnswered h time buffer 17 0 buffer
-  short : {rows : List Place} → Timely h time → IsListing h time rows → length buffer < length (listing time rows) → ListAnswered h time buffer 14 0 buffer
-  whole : {rows : List Place} → Timely h time → IsListing h time rows → length (listing time rows) ≤ length buffer
-      → ListAnswered h time buffer 0 (length (listing time rows)) (listing time rows ++ drop (length (listing time rows)) buffer)
+-- 14, "buffer shorter than what would be written"
+pub record Short (shown : Place → Type 0) (time : ℕ) (buffer : List ℕ) : Type 0 where
+  pub rows : List Place
+  pub listed : AllInOrder shown rows
+  pub longer : length buffer < length (listing time rows)
+
+-- "the count written is returned", and "the bytes past the count stay"
+pub record Whole (shown : Place → Type 0) (time : ℕ) (buffer : List ℕ) (count : ℕ) (after : List ℕ) : Type 0 where
+  pub rows : List Place
+  pub listed : AllInOrder shown rows
+  pub counted : count ≡ length (listing time rows)
+  pub leaves : after ≡ listing time rows ++ drop (length (listing time rows)) buffer
+
+-- "Listing: 36, 16, 17, then 14": by what it finds, that the board is not good, its clock, and what is shown at the time. This is said of a
+-- history below, and of a board in specs/AnyBoard.antt.
+abbrev pub ListNumber : Type 0 → ℕ → (Place → Type 0) → ℕ → List ℕ → ℕ → Type 0
+ListNumber bad clock shown time buffer =
+    Refuses 36 bad (Refuses 16 (InRange time → ⊥) (Refuses 17 (time < clock) (Refuses 14 (Short shown time buffer) Accepts)))
+
+-- its number, its count and its buffer; "(count 0, buffer untouched)"
+pub record Lists (bad : Type 0) (clock : ℕ) (shown : Place → Type 0) (time : ℕ) (buffer : List ℕ) (answer count : ℕ) (after : List ℕ) : Type 0 where
+  pub number : ListNumber bad clock shown time buffer answer
+  pub untouched : (answer ≡ 0 → ⊥) → (count ≡ 0) × (after ≡ buffer)
+  pub whole : answer ≡ 0 → Whole shown time buffer count after
+
+-- the rows of a listing after the history, and its answer
+abbrev pub IsListing : History → ℕ → List Place → Type 0
+IsListing h time = AllInOrder (InForce h time)
+
+abbrev pub ListAnswered : History → ℕ → List ℕ → ℕ → ℕ → List ℕ → Type 0
+ListAnswered h time = Lists ⊥ (lastClock h) (InForce h time) time
