@@ -134,9 +134,21 @@ end-is kind start g t e l = subst (IsEnd kind start g) e (end-found kind start g
 target-is : (kind end : ℕ) (g : Group) (t : ℕ) → targetOf kind end g ≡ t → t < never → IsTarget kind end g t
 target-is kind end g t e l = subst (IsTarget kind end g) e (target-found kind end g (rw e l))
 
-sample-target : targetOf 2 12648270 (dayAndTime 18 8 30) ≡ 12648030
+found-target : targetOf 2 12648270 (dayAndTime 18 8 30) ≡ 12648030
 unfolding opened
-sample-target = refl
+found-target = refl
+
+sample-start : IsStart 12648030 (sample .line .valid .from) 12648030
+unfolding sample
+sample-start = start-is 12648030 (dayAndTime 18 8 30) 12648030 case-at-the-clock (omega (arith))
+
+sample-end : IsEnd (sample .heading .designator .kind) 12648030 (sample .line .valid .to) 12648270
+unfolding sample
+sample-end = end-is 2 12648030 (dayAndTime 18 12 30) 12648270 case-at-the-limit (omega (arith))
+
+sample-target : IsTarget (cancelling .heading .designator .kind) 12648270 (sample .line .valid .from) 12648030
+unfolding sample
+sample-target = target-is 2 12648270 (dayAndTime 18 8 30) 12648030 found-target (omega (arith))
 
 -- the boards of the cases are these two
 with-sample : withSample ≡ boardAt samplePlace 12648030
@@ -156,14 +168,14 @@ starred =
       forecast-for-intensity = sample-FCST;
       intensity-twice = sample-NC;
       no-sign = sample-open;
-      north-0 = record { good = n00 .good; value = n00 .value };
-      south-0 = record { good = s0000 .good; value = s0000 .value };
-      south-90 = record { good = s90 .good; value = s90 .value };
+      north-0 = n00;
+      south-0 = s0000;
+      south-90 = s90;
       north-90-01 = n9001;
       north-90-01-read = sample-N9001;
       the-18th = the-18th;
-      start = start-is 12648030 (dayAndTime 18 8 30) 12648030 case-at-the-clock (omega (arith));
-      end = end-is 2 12648030 (dayAndTime 18 12 30) 12648270 case-at-the-limit (omega (arith));
+      start = sample-start;
+      end = sample-end;
       posted = ap (λ x. x .answer) sample-posted;
       listed = ap (λ (b : Board). listOf b 12648030 (page 22)) with-sample ∙ listed-then;
       last-minute = ap (λ (b : Board). listOf b 12648269 (page 22)) with-sample ∙ listed-late;
@@ -174,7 +186,7 @@ starred =
       no-29th = start-none 12182340 (dayAndTime 29 1 0) case-common-year;
       common-year = twenty-ninth;
       cancellation-read = cancellation-read;
-      target = target-is 2 12648270 (dayAndTime 18 8 30) 12648030 sample-target (omega (arith));
+      target = sample-target;
       cancelled = ap (λ (b : Board). postOf b 12648180 cancelling .answer) with-sample ∙ ap (λ x. x .answer) sample-cancelled;
       off-the-list = ap (λ (b : Board). listOf b 12648180 (page 22)) with-cancellation ∙ listed-cancelled;
       late-copy = ap (λ (b : Board). postOf b 12648181 sample .answer) with-cancellation ∙ sample-again;
