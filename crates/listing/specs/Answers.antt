@@ -1,5 +1,5 @@
 -- 01, "Listing: 36, 16, 17, then 14 (count 0, buffer untouched).": the answer to a listing of a board, by its places.
--- Tied: `demand-3` (crates/promises/proofs/Histories.antt).
+-- Tied: `any-listing` (crates/promises/proofs/BoardListings.antt).
 use mathlib.Core.List.{List}
 use Prim.Native.Nat.{ℕ}
 use lib.Dec.{ltb, eqb}

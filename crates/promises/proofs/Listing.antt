@@ -28,7 +28,7 @@ use Rattle.promises.specs.Accepted.{lastClock}
 use Rattle.promises.specs.Accepted.Known.{by-report}
 use Rattle.promises.specs.Refusals.{Refuses, Accepts, InRange}
 use Rattle.promises.specs.Refusals.Refuses.{given, passed}
-use Rattle.promises.specs.InForce.{InForce, AllInOrder, Short, ListNumber, Lists, IsListing, ListAnswered}
+use Rattle.promises.specs.InForce.{InForce, AllInOrder, NoRoomFor, ListNumber, Lists, IsListing, ListAnswered}
 use Rattle.listing.specs.Listings.{listing}
 use Rattle.promises.proofs.Held.{On}
 use Rattle.promises.proofs.Refusing.{one-number, past, range-in, in-range, outside, early, timely}
@@ -208,7 +208,7 @@ module _ {bad : Type 0} {clock : ℕ} {shown : Place → Type 0} {time : ℕ} {b
 
   -- neither board nor clock speaks against it
   module _ (good : bad → ⊥) (ranged : InRange time) (l : clock ≤ time) where
-    roomy : (n : ℕ) → Refuses 14 (Short shown time buffer) Accepts n → ListNumber bad clock shown time buffer n
+    roomy : (n : ℕ) → Refuses 14 (NoRoomFor shown time buffer) Accepts n → ListNumber bad clock shown time buffer n
     roomy n x = passed good (passed (λ o. o ranged) (passed (λ e. absurd (omega (arith, e, l))) x))
 
     module _ {rows : List Place} (all : AllInOrder shown rows) where
@@ -222,7 +222,7 @@ module _ {bad : Type 0} {clock : ℕ} {shown : Place → Type 0} {time : ℕ} {b
 
       pub whole-ends : AllFormed shown → length (listing time rows) ≤ length buffer → Ends bad clock shown time buffer (written (listing time rows) buffer)
       whole-ends f h =
-          let fits : Short shown time buffer → ⊥ = λ s. absurd (omega (arith, h, s .longer, ap (λ (r : List Place). length (listing time r)) (one-rows f all (s .listed)))) in
+          let fits : NoRoomFor shown time buffer → ⊥ = λ s. absurd (omega (arith, h, s .longer, ap (λ (r : List Place). length (listing time r)) (one-rows f all (s .listed)))) in
           record {
             number = roomy 0 (passed fits refl);
             untouched = λ z. absurd (z refl);

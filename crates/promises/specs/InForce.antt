@@ -32,13 +32,13 @@ pub record AllInOrder (shown : Place → Type 0) (rows : List Place) : Type 0 wh
   pub ordered : Pairwise InOrder rows
 
 -- 14, "buffer shorter than what would be written"
-pub record Short (shown : Place → Type 0) (time : ℕ) (buffer : List ℕ) : Type 0 where
+pub record NoRoomFor (shown : Place → Type 0) (time : ℕ) (buffer : List ℕ) : Type 0 where
   pub rows : List Place
   pub listed : AllInOrder shown rows
   pub longer : length buffer < length (listing time rows)
 
 -- "the count written is returned", and "the bytes past the count stay"
-pub record Whole (shown : Place → Type 0) (time : ℕ) (buffer : List ℕ) (count : ℕ) (after : List ℕ) : Type 0 where
+pub record FullListing (shown : Place → Type 0) (time : ℕ) (buffer : List ℕ) (count : ℕ) (after : List ℕ) : Type 0 where
   pub rows : List Place
   pub listed : AllInOrder shown rows
   pub counted : count ≡ length (listing time rows)
@@ -48,13 +48,13 @@ pub record Whole (shown : Place → Type 0) (time : ℕ) (buffer : List ℕ) (co
 -- history below, and of a board in specs/AnyBoard.antt.
 abbrev pub ListNumber : Type 0 → ℕ → (Place → Type 0) → ℕ → List ℕ → ℕ → Type 0
 ListNumber bad clock shown time buffer =
-    Refuses 36 bad (Refuses 16 (InRange time → ⊥) (Refuses 17 (time < clock) (Refuses 14 (Short shown time buffer) Accepts)))
+    Refuses 36 bad (Refuses 16 (InRange time → ⊥) (Refuses 17 (time < clock) (Refuses 14 (NoRoomFor shown time buffer) Accepts)))
 
 -- its number, its count and its buffer; "(count 0, buffer untouched)"
 pub record Lists (bad : Type 0) (clock : ℕ) (shown : Place → Type 0) (time : ℕ) (buffer : List ℕ) (answer count : ℕ) (after : List ℕ) : Type 0 where
   pub number : ListNumber bad clock shown time buffer answer
   pub untouched : (answer ≡ 0 → ⊥) → (count ≡ 0) × (after ≡ buffer)
-  pub whole : answer ≡ 0 → Whole shown time buffer count after
+  pub whole : answer ≡ 0 → FullListing shown time buffer count after
 
 -- the rows of a listing after the history, and its answer
 abbrev pub IsListing : History → ℕ → List Place → Type 0
