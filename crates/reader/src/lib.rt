@@ -12,7 +12,7 @@ pub fn read(bulletin: &[u8]) -> Reply
 {
     let c = check(bulletin);
     if c.number != 0 {
-        return refusal(c.number, c.place);
+        return refusal(c.number, c.place, c.length);
     }
     let end = c.place;
     read_text(&bulletin[..end])

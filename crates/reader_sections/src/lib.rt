@@ -30,7 +30,9 @@ use grammar::Reply;
 use grammar::refusal;
 use message::Record;
 use opening::read_opening;
+use steps::Step;
 use steps::step_at;
+use words::length_at;
 
 // The reply to the text before the first `=`: its record, or 4 to 12 at a word. What is refused up to the area is answered at once, for a bad
 // bulletin mostly is.
@@ -40,7 +42,7 @@ pub fn read_text(text: &[u8]) -> Reply
     let opening = read_opening(text, step_at(text, 0));
     let reached = opening.step;
     if reached.number != 0 {
-        return refusal(reached.number, reached.place);
+        return refused_at(text, reached);
     }
     let heading = opening.heading;
     let line = opening.line;
@@ -49,13 +51,14 @@ pub fn read_text(text: &[u8]) -> Reply
     let rest = read_body(text, reached, designator.kind, line, area.closing);
     let last = rest.step;
     if last.number != 0 {
-        return refusal(last.number, last.place);
+        return refused_at(text, last);
     }
     let form = rest.form;
     let report = rest.report;
     Reply {
         number: 0,
         place: 0,
+        length: 0,
         message: Record {
             heading,
             line,
@@ -64,4 +67,11 @@ pub fn read_text(text: &[u8]) -> Reply
             report,
         },
     }
+}
+
+// The word at a refused step is looked up again for its length.
+fn refused_at(text: &[u8], at: Step) -> Reply
+    ensures { λ r. ⌜ r ≡ refusalOf (at .number) (at .place) (lengthAt (now (text .entry)) (at .place)) ⌝ }
+{
+    refusal(at.number, at.place, length_at(text, at.place))
 }

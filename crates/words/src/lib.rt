@@ -1,19 +1,20 @@
-// Bytes to words: refusal numbers 1 to 3 with their places, and the word at a place of the text before `=`.
+// Bytes to words: refusal numbers 1 to 3 with place and length, and the word at a place of the text before `=`, with its length.
 ghost use mathlib.Core.Path.{_≡_};
 ghost use Prim.Native.Nat.{_+_};
 ghost use Rattle.words.specs.Bytes.{letter, digit};
 ghost use Rattle.words.specs.Check.{checkOf};
-ghost use Rattle.words.specs.Words.{spanOf};
+ghost use Rattle.words.specs.Words.{spanOf, lengthAt};
 
 mod bytes;
 mod walks;
 
 use lists::both;
 
-// The refusal number with its place, or number 0 with the place of the first `=`.
+// The refusal number with its place and length, or number 0 with the place of the first `=` and length 0.
 pub struct Checked {
     pub number: u8,
     pub place: usize,
+    pub length: usize,
 }
 
 // Where a word begins, and where it ends: the end is not counted.
@@ -46,12 +47,14 @@ pub fn check(bulletin: &[u8]) -> Checked
         return Checked {
             number: 1,
             place: 0,
+            length: 0,
         };
     }
     if MOST_BYTES < length {
         return Checked {
             number: 1,
             place: 0,
+            length: 0,
         };
     }
     let barred = walks::first_barred(bulletin);
@@ -59,6 +62,7 @@ pub fn check(bulletin: &[u8]) -> Checked
         return Checked {
             number: 2,
             place: barred,
+            length: 1,
         };
     }
     let equals = walks::first_equals(bulletin);
@@ -66,6 +70,7 @@ pub fn check(bulletin: &[u8]) -> Checked
         return Checked {
             number: 3,
             place: length,
+            length: 0,
         };
     }
     let after = walks::first_solid(bulletin, equals + 1);
@@ -73,11 +78,13 @@ pub fn check(bulletin: &[u8]) -> Checked
         return Checked {
             number: 3,
             place: after,
+            length: 1,
         };
     }
     Checked {
         number: 0,
         place: equals,
+        length: 0,
     }
 }
 
@@ -88,4 +95,15 @@ pub fn word_at(text: &[u8], place: usize) -> Span
     let start = walks::first_solid(text, place);
     let end = walks::first_blank(text, start);
     Span { start, end }
+}
+
+// The length of the next word of the text from a place on. The `=` at the text's end is a word of one byte.
+pub fn length_at(text: &[u8], place: usize) -> usize
+    ensures { λ r. ⌜ r ≡ lengthAt (now (text .entry)) place ⌝ }
+{
+    let next = word_at(text, place);
+    if next.start == next.end {
+        return 1;
+    }
+    next.end - next.start
 }
