@@ -14,7 +14,7 @@ use Rattle.lists.specs.Text.{bytes}
 use Rattle.lists.proofs.Choice.{clash, both-left, both-right, both-true}
 use Rattle.lists.proofs.Lists.{same-is}
 use Rattle.words.specs.Bytes.{between, allowed}
-use Rattle.words.specs.Words.{plainWord}
+use Rattle.words.specs.Words.{equalsSign, plainWord}
 use Rattle.figures.specs.Figures.{figuresOf}
 use Rattle.figures.specs.Reads.{Reads}
 use Rattle.figures.proofs.ReadsLaws.{Back, reads-spelled}
@@ -337,20 +337,20 @@ unfolding intensityWords allOf same
 intensity-other i g = numbered-all (λ (w : List ℕ). both (not (is "MOV" w)) (not (is "STNR" w))) 1 intensityWords (lit< tt) refl i g
 
 forth-moving : (l : ToLevel) (d : ℕ) (v : Speed) (i : ℕ) → goodCompass d ≡ true → goodSpeed v ≡ true → goodIntensity i ≡ true
-    → walk (goes (atEnding l)) (bytes "MOV" ∷ spellCompass d ∷ spellSpeed v ∷ spellIntensity i ∷ [] ∷ []) ≡ done (reportOf l (Moving d v i) noExtent)
+    → walk (goes (atEnding l)) (bytes "MOV" ∷ spellCompass d ∷ spellSpeed v ∷ spellIntensity i ∷ equalsSign ∷ []) ≡ done (reportOf l (Moving d v i) noExtent)
 unfolding walk step stepEnding same
 forth-moving l d v i g h k =
-    walk-step (atEnding l) (atCompass l) (bytes "MOV") (spellCompass d ∷ spellSpeed v ∷ spellIntensity i ∷ [] ∷ []) refl
-    ∙ (walk-step (atCompass l) (atSpeed l d) (spellCompass d) (spellSpeed v ∷ spellIntensity i ∷ [] ∷ []) (reads-on compass-reads (atSpeed l) d g)
-    ∙ (walk-step (atSpeed l d) (atMovingIntensity l d v) (spellSpeed v) (spellIntensity i ∷ [] ∷ []) (reads-on speed-reads (atMovingIntensity l d) v h)
-    ∙ walk-step (atMovingIntensity l d v) (atEnd (reportOf l (Moving d v i) noExtent)) (spellIntensity i) ([] ∷ []) (reads-on intensity-reads (λ (n : ℕ). atEnd (reportOf l (Moving d v n) noExtent)) i k)))
+    walk-step (atEnding l) (atCompass l) (bytes "MOV") (spellCompass d ∷ spellSpeed v ∷ spellIntensity i ∷ equalsSign ∷ []) refl
+    ∙ (walk-step (atCompass l) (atSpeed l d) (spellCompass d) (spellSpeed v ∷ spellIntensity i ∷ equalsSign ∷ []) (reads-on compass-reads (atSpeed l) d g)
+    ∙ (walk-step (atSpeed l d) (atMovingIntensity l d v) (spellSpeed v) (spellIntensity i ∷ equalsSign ∷ []) (reads-on speed-reads (atMovingIntensity l d) v h)
+    ∙ walk-step (atMovingIntensity l d v) (atEnd (reportOf l (Moving d v i) noExtent)) (spellIntensity i) (equalsSign ∷ []) (reads-on intensity-reads (λ (n : ℕ). atEnd (reportOf l (Moving d v n) noExtent)) i k)))
 
 forth-stationary : (l : ToLevel) (i : ℕ) → goodIntensity i ≡ true
-    → walk (goes (atEnding l)) (bytes "STNR" ∷ spellIntensity i ∷ [] ∷ []) ≡ done (reportOf l (Stationary i) noExtent)
+    → walk (goes (atEnding l)) (bytes "STNR" ∷ spellIntensity i ∷ equalsSign ∷ []) ≡ done (reportOf l (Stationary i) noExtent)
 unfolding walk step stepEnding same
 forth-stationary l i g =
-    walk-step (atEnding l) (atStationary l) (bytes "STNR") (spellIntensity i ∷ [] ∷ []) refl
-    ∙ walk-step (atStationary l) (atEnd (reportOf l (Stationary i) noExtent)) (spellIntensity i) ([] ∷ []) (reads-on intensity-reads (λ (n : ℕ). atEnd (reportOf l (Stationary n) noExtent)) i g)
+    walk-step (atEnding l) (atStationary l) (bytes "STNR") (spellIntensity i ∷ equalsSign ∷ []) refl
+    ∙ walk-step (atStationary l) (atEnd (reportOf l (Stationary i) noExtent)) (spellIntensity i) (equalsSign ∷ []) (reads-on intensity-reads (λ (n : ℕ). atEnd (reportOf l (Stationary n) noExtent)) i g)
 
 forecast-step : (l : ToLevel) (i : ℕ) → eqb (kindOf (areaOf l)) ws ≡ true → goodIntensity i ≡ true → step (atEnding l) (spellIntensity i) ≡ goes (atForecast l i)
 unfolding step stepEnding
@@ -373,7 +373,7 @@ forth-forecast l i rest ok k g =
 module _ (forth-extent : (site : Site) (e : Extent) (w : List ℕ) (ws : List (List ℕ)) → goodExtent e ≡ true → is "AND" w ≡ false
     → walk (goes (atPlace site atLocation)) (extentWords (closingAt site) e ++ (w ∷ ws)) ≡ walk (goes (after site e)) (w ∷ ws)) where
   pub forth-ending : (l : ToLevel) (e : Ending) (f : Extent) → LevelOk l → goodEnding (kindOf (areaOf l)) e f ≡ true
-      → walk (goes (atEnding l)) (endingWords (endTime l) (areaOf l .area .closing) e f ++ ([] ∷ [])) ≡ done (reportOf l e f)
+      → walk (goes (atEnding l)) (endingWords (endTime l) (areaOf l .area .closing) e f ++ (equalsSign ∷ [])) ≡ done (reportOf l e f)
   unfolding goodEnding endingWords walk step same
   forth-ending l NoEnding f ok g = clash false g refl
   forth-ending l (Moving d v i) f ok g =
@@ -384,8 +384,8 @@ module _ (forth-extent : (site : Site) (e : Extent) (w : List ℕ) (ws : List (L
       rw (empty-extent-is f (parts .forecast)) (forth-stationary l i (parts .intensity))
   forth-ending l (Forecast i) f ok g =
       let parts = forecast-parts (kindOf (areaOf l)) i f g in
-      forth-forecast l i (extentWords (areaOf l .area .closing) f ++ ([] ∷ [])) ok (parts .kind) (parts .intensity)
-      ∙ forth-extent (inForecast l i) f [] [] (parts .forecast) refl
+      forth-forecast l i (extentWords (areaOf l .area .closing) f ++ (equalsSign ∷ [])) ok (parts .kind) (parts .intensity)
+      ∙ forth-extent (inForecast l i) f equalsSign [] (parts .forecast) refl
 
 -- Plain: these words have only plain bytes.
 

@@ -147,19 +147,20 @@ module _
 
     -- Theorems c and d: a run is refused at the first word that, with those before it, begins no accepted message, by the number of the part
     -- that the word is judged as.
-    pub refused-there : (ws : List Word) (n p : ℕ) → run atDesignator ws ≡ refused n p → RefusedAt ws n p
+    pub refused-there : (ws : List Word) (n p : ℕ) → run atDesignator ws ≡ refused n p → (long : ℕ) × RefusedAt ws n p long
     refused-there ws n p e =
         let b : Breaks atDesignator ws n p = run-breaks atDesignator ws n p e in
-        record {
+        (length (b .word .bytes), record {
           before = b .before;
           word = b .word;
           rest = b .rest;
           split = b .split;
           there = b .there;
+          as-long = refl;
           begins = alive-begins (bytesOf (b .before)) (walk start (bytesOf (b .before))) refl (b .alive);
           ends = killed (bytesOf (b .before)) (b .word .bytes) (b .dies);
           numbered = subst (λ (k : ℕ). Numbered (bytesOf (b .before)) k) (sym (b .numbered)) (numbered-by (bytesOf (b .before)) (walk start (bytesOf (b .before))) refl (b .alive));
-        }
+        })
 
     -- a whole message's walk has ended, and nothing comes after it
     pub whole-done : (ws : List (List ℕ)) (c : Whole ws) → walk start ws ≡ done (c .message)
@@ -183,13 +184,13 @@ module _
     numbers-one ws n (done r) e a (inr w) = w .1
 
     -- the converse: wherever a word is the first such, the run is refused there by that number
-    pub there-refused : (ws : List Word) (n p : ℕ) → RefusedAt ws n p → run atDesignator ws ≡ refused n p
-    there-refused ws n p r =
+    pub there-refused : (ws : List Word) (n p long : ℕ) → RefusedAt ws n p long → run atDesignator ws ≡ refused n p
+    there-refused ws n p long r =
         let before : List (List ℕ) = bytesOf (r .before) in
         let alive : Alive (walk start before) = begun-alive before (walk start before) refl (r .begins) in
         let dies : advance (walk start before) (r .word .bytes) ≡ dead = kills before (r .word .bytes) (advance (walk start before) (r .word .bytes)) refl (r .ends) in
         let number : n ≡ moveNumber (walk start before) = numbers-one before n (walk start before) refl alive (r .numbered) in
         rw (r .split, number, ← (r .there)) (breaks-run atDesignator (r .before) (r .word) (r .rest) alive dies)
 
-    pub refused-exactly : (ws : List Word) (n p : ℕ) → (run atDesignator ws ≡ refused n p) ↔ RefusedAt ws n p
-    refused-exactly ws n p = (refused-there ws n p, there-refused ws n p)
+    pub refused-exactly : (ws : List Word) (n p : ℕ) → (run atDesignator ws ≡ refused n p) ↔ ((long : ℕ) × RefusedAt ws n p long)
+    refused-exactly ws n p = (refused-there ws n p, λ r. there-refused ws n p (r .0) (r .1))

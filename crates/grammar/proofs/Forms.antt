@@ -16,7 +16,7 @@ use Rattle.lists.specs.Text.{bytes}
 use Rattle.lists.proofs.Choice.{by, clash, both-left, both-true, both-false-right, both-three}
 use Rattle.lists.proofs.Lists.{all-at, same-is, same-refl}
 use Rattle.words.specs.Bytes.{between, allowed}
-use Rattle.words.specs.Words.{plainWord}
+use Rattle.words.specs.Words.{equalsSign, plainWord}
 use Rattle.words.proofs.Ranges.{between-low, between-high}
 use Rattle.figures.specs.Figures.{figuresOf}
 use Rattle.figures.proofs.ReadsLaws.{reads-spelled}
@@ -172,7 +172,7 @@ cancel-period-sound o s w ok = goes-if (cancels (o .line) s (periodOf w)) next
 
 pub test-next : (o : ToArea) → Ok (atTest o) → Next (atTest o)
 unfolding step walk same
-test-next o ok = record { word = []; rest = []; message = testOf o 1; ends = refl; part = refl }
+test-next o ok = record { word = equalsSign; rest = []; message = testOf o 1; ends = refl; part = refl }
 
 pub test-text-next : (o : ToArea) (n read : ℕ) → Ok (atTestText o n read) → Next (atTestText o n read)
 unfolding step
@@ -238,7 +238,7 @@ form-next o ok = next-by (atForm o) (bytes "CNL") (atCancelSigmet o) refl refl (
 
 -- Forth: what is written is read.
 
-pub forth-test : (o : ToArea) (n : ℕ) → between 1 3 n ≡ true → walk (goes (atForm o)) (testText n ++ ([] ∷ [])) ≡ done (testOf o n)
+pub forth-test : (o : ToArea) (n : ℕ) → between 1 3 n ≡ true → walk (goes (atForm o)) (testText n ++ (equalsSign ∷ [])) ≡ done (testOf o n)
 unfolding walk step stepForm same testTexts
 forth-test o zero b = clash false b refl
 forth-test o (suc zero) b = refl
@@ -247,14 +247,14 @@ forth-test o (suc (suc (suc zero))) b = refl
 forth-test o (suc (suc (suc (suc n)))) b = absurd (omega (arith, between-high 1 3 (suc (suc (suc (suc n)))) b))
 
 pub forth-cancellation : (o : ToArea) (s : Sequence) (from : Group) → goodLine (o .line) ≡ true → goodCancellation (o .line) s from ≡ true
-    → walk (goes (atForm o)) ((bytes "CNL" ∷ bytes "SIGMET" ∷ spellSequence s ∷ spellPeriod (record { from = from; to = o .line .valid .to }) ∷ []) ++ ([] ∷ []))
+    → walk (goes (atForm o)) ((bytes "CNL" ∷ bytes "SIGMET" ∷ spellSequence s ∷ spellPeriod (record { from = from; to = o .line .valid .to }) ∷ []) ++ (equalsSign ∷ []))
     ≡ done (cancellationOf o s from)
 unfolding walk step stepForm same
 forth-cancellation o s from l g =
     let parts = cancellation-parts (o .line) s from g in
     let last : List ℕ = spellPeriod (record { from = from; to = o .line .valid .to }) in
-    walk-step (atCancelSequence o) (atCancelPeriod o s) (spellSequence s) (last ∷ [] ∷ []) (reads-on sequence-reads (atCancelPeriod o) s (parts .sequence))
-    ∙ walk-step (atCancelPeriod o s) (atEnd (cancellationOf o s from)) last ([] ∷ []) (cancel-step o s from l (parts .from) (parts .other))
+    walk-step (atCancelSequence o) (atCancelPeriod o s) (spellSequence s) (last ∷ equalsSign ∷ []) (reads-on sequence-reads (atCancelPeriod o) s (parts .sequence))
+    ∙ walk-step (atCancelPeriod o s) (atEnd (cancellationOf o s from)) last (equalsSign ∷ []) (cancel-step o s from l (parts .from) (parts .other))
 
 -- Plain: what is written is made of the bytes that a word may have.
 

@@ -5,6 +5,7 @@ use mathlib.Core.Path.{_≡_, refl, ap, _∙_}
 use Prim.Native.Nat.{ℕ}
 use Rattle.lists.proofs.Choice.{clash, both-left, both-right}
 use Rattle.words.specs.Bytes.{between}
+use Rattle.words.specs.Words.{equalsSign}
 use Rattle.levels.specs.Levels.{levelWords}
 use Rattle.message.specs.Locations.{extentWords}
 use Rattle.message.specs.Records.{goodCancellation, goodForm, good}
@@ -56,7 +57,7 @@ forth-phenomenon o n v w vs g f =
 
 -- a whole report
 forth-report : (l : ToLevel) (e : Ending) (f : Extent) → LevelOk l → goodEnding (kindOf (areaOf l)) e f ≡ true
-    → walk (goes (atForm (areaOf l))) (reportWords (endTime l) (areaOf l .area .closing) (reportOf l e f .report) ++ ([] ∷ [])) ≡ done (reportOf l e f)
+    → walk (goes (atForm (areaOf l))) (reportWords (endTime l) (areaOf l .area .closing) (reportOf l e f .report) ++ (equalsSign ∷ [])) ≡ done (reportOf l e f)
 unfolding reportWords
 forth-report l e f k g =
     let q : ToLocation = l .before in
@@ -67,11 +68,11 @@ forth-report l e f k g =
     let obs : List (List ℕ) = observationWords (ob .observation) in
     let ext : List (List ℕ) = extentWords closing (q .extent) in
     let lev : List (List ℕ) = levelWords (l .level) in
-    let end : List (List ℕ) = endingWords (endTime l) closing e f ++ ([] ∷ []) in
+    let end : List (List ℕ) = endingWords (endTime l) closing e f ++ (equalsSign ∷ []) in
     let of = observation-first (ob .observation) (k .before .before .observation) in
     let xf = extent-first closing (q .extent) (k .before .extent) in
     let lf = level-first (l .level) (k .level) in
-    let regroup : (phen ++ (obs ++ (ext ++ (lev ++ endingWords (endTime l) closing e f)))) ++ ([] ∷ []) ≡ phen ++ (obs ++ (ext ++ (lev ++ end))) = simp append-assoc in
+    let regroup : (phen ++ (obs ++ (ext ++ (lev ++ endingWords (endTime l) closing e f)))) ++ (equalsSign ∷ []) ≡ phen ++ (obs ++ (ext ++ (lev ++ end))) = simp append-assoc in
     let one : walk (goes (atForm (areaOf l))) (phen ++ (obs ++ (ext ++ (lev ++ end)))) ≡ walk (goes (atObservation p)) (obs ++ (ext ++ (lev ++ end))) =
     rw (ahead obs (of .0) (of .1) (ext ++ (lev ++ end)) (of .2)) (forth-phenomenon (p .before) (p .phenomenon) (p .volcano) (of .0) (of .1 ++ (ext ++ (lev ++ end))) (k .before .before .before .phenomenon) (of .3))
     in
@@ -86,7 +87,7 @@ forth-report l e f k g =
 
 -- the forms
 forth-form : (o : ToArea) (report : Report) (f : Form) → OpeningOk o → goodForm (kindOf o) (o .line) report f ≡ true
-    → walk (goes (atForm o)) (formWords (formed o f report) f ++ ([] ∷ [])) ≡ done (formed o f report)
+    → walk (goes (atForm o)) (formWords (formed o f report) f ++ (equalsSign ∷ [])) ≡ done (formed o f report)
 unfolding goodForm formWords
 forth-form o report NoForm k g = clash false g refl
 forth-form o report (Test n) k g = rw (empty-report-is report (both-right (between 1 3 n) _ g)) (forth-test o n (both-left _ _ g))
@@ -112,8 +113,8 @@ pub good-accepted : (r : Record) → good r ≡ true → walk (goes atDesignator
 unfolding wordsOf bodyWords
 good-accepted r g =
     let parts = good-parts r g in
-    let body : List (List ℕ) = formWords r (r .form) ++ ([] ∷ []) in
-    let regroup : (headingWords (r .heading) ++ (lineWords (r .line) ++ (areaWords (r .area) ++ formWords r (r .form)))) ++ ([] ∷ []) ≡ headingWords (r .heading) ++ (lineWords (r .line) ++ (areaWords (r .area) ++ body)) = simp append-assoc in
+    let body : List (List ℕ) = formWords r (r .form) ++ (equalsSign ∷ []) in
+    let regroup : (headingWords (r .heading) ++ (lineWords (r .line) ++ (areaWords (r .area) ++ formWords r (r .form)))) ++ (equalsSign ∷ []) ≡ headingWords (r .heading) ++ (lineWords (r .line) ++ (areaWords (r .area) ++ body)) = simp append-assoc in
     ap (walk (goes atDesignator)) regroup
     ∙ (forth-line (r .heading) (r .line) (areaWords (r .area) ++ body) (parts .heading) (parts .line)
     ∙ (forth-area (r .heading) (r .line) (r .area) body (parts .area)

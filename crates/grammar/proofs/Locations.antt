@@ -14,6 +14,7 @@ use Rattle.lists.specs.Lists.{allOf, same}
 use Rattle.lists.specs.Text.{bytes}
 use Rattle.lists.proofs.Choice.{by, clash, either-left, either-right, either-cases}
 use Rattle.lists.proofs.Lists.{same-refl}
+use Rattle.words.specs.Words.{equalsSign}
 use Rattle.figures.specs.Figures.{figuresOf}
 use Rattle.coordinates.specs.Coordinates.{northSouth, eastWest, goodCoordinate, spellCoordinate}
 use Rattle.coordinates.specs.declared.Coordinate.{Coordinate}
@@ -116,7 +117,7 @@ module _ (ending : (l : ToLevel) → LevelOk l → Next (atEnding l)) where
       let q : ToLocation = record { before = o; extent = bounded latitude noSide } in
       next-by (atPlace (inReport o) (atAnd latitude)) (bytes "FL100") (levelled q (Flight 100)) refl refl
       (level-next q (record { before = ok; extent = bounded-first latitude g }))
-  and-next (inForecast l i) latitude ok g = record { word = []; rest = []; message = reportOf l (Forecast i) (bounded latitude noSide); ends = refl; part = refl }
+  and-next (inForecast l i) latitude ok g = record { word = equalsSign; rest = []; message = reportOf l (Forecast i) (bounded latitude noSide); ends = refl; part = refl }
 
   module _ (site : Site) (ok : SiteOk site) where
     -- a word that goes on, and one that ends the location

@@ -3,6 +3,7 @@ use mathlib.Core.Bool.{true}
 use mathlib.Core.List.{List, [], _∷_, _++_, map, append-nil, map-append}
 use mathlib.Core.Path.{_≡_, refl, ap, sym, _∙_}
 use Prim.Native.Nat.{ℕ}
+use Rattle.words.specs.Words.{equalsSign}
 use Rattle.figures.specs.Letters.{inLetters}
 use Rattle.groups.specs.Groups.{spellGroup}
 use Rattle.headings.specs.Headings.{spellDesignator}
@@ -79,7 +80,7 @@ parts-words r =
 
 pub message-words : (r : Record) → unmarked (messageParts r) ≡ messageWords r
 message-words r =
-    map-append (λ (m : Marked). m .word) (partsOf r) (marked 12 [] ∷ []) ∙ ap (λ (q : List (List ℕ)). q ++ ([] ∷ [])) (parts-words r)
+    map-append (λ (m : Marked). m .word) (partsOf r) (marked 12 equalsSign ∷ []) ∙ ap (λ (q : List (List ℕ)). q ++ (equalsSign ∷ [])) (parts-words r)
 
 -- The parts along a walk.
 
@@ -111,7 +112,7 @@ marks-append m (v ∷ vs) ws = ap (λ (r : List Marked). markAt m v ∷ r) (mark
 
 pub data Kept : Move → List Marked → Type 0 where
   keeps : {s : State} {ms : List Marked} → Ok s → told s ≡ ms → Kept (goes s) ms
-  ended : {r : Record} {ms : List Marked} → good r ≡ true → marked 12 [] ∷ toldRecord r ≡ ms → Kept (done r) ms
+  ended : {r : Record} {ms : List Marked} → good r ≡ true → marked 12 equalsSign ∷ toldRecord r ≡ ms → Kept (done r) ms
   lost : {ms : List Marked} → Kept dead ms
 
 pub kept-ok : {s : State} {ms : List Marked} → Kept (goes s) ms → Ok s
@@ -120,7 +121,7 @@ kept-ok (keeps o t) = o
 pub kept-good : {r : Record} {ms : List Marked} → Kept (done r) ms → good r ≡ true
 kept-good (ended g t) = g
 
-pub kept-told : {r : Record} {ms : List Marked} → Kept (done r) ms → marked 12 [] ∷ toldRecord r ≡ ms
+pub kept-told : {r : Record} {ms : List Marked} → Kept (done r) ms → marked 12 equalsSign ∷ toldRecord r ≡ ms
 kept-told (ended g t) = t
 
 -- where every walk begins
@@ -153,7 +154,7 @@ module _ (sound : (s : State) (w : List ℕ) → Ok s → Fine s w (step s w)) w
 
   pub accepted-parts : (ws : List (List ℕ)) (r : Record) → walk start ws ≡ done r → marksOf start ws ≡ messageParts r
   accepted-parts ws r e =
-      sym (rev-same (messageParts r) (marksOf start ws) (rev-last (partsOf r) (marked 12 []) [] ∙ kept-told (rw e at (start-kept ws))))
+      sym (rev-same (messageParts r) (marksOf start ws) (rev-last (partsOf r) (marked 12 equalsSign) [] ∙ kept-told (rw e at (start-kept ws))))
 
   pub accepted-words : (ws : List (List ℕ)) (r : Record) → walk start ws ≡ done r → ws ≡ messageWords r
   accepted-words ws r e = sym (marks-words start ws) ∙ (ap unmarked (accepted-parts ws r e) ∙ message-words r)

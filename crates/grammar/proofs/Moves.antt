@@ -6,10 +6,12 @@ use Prim.Native.Nat.{ℕ}
 use Rattle.lists.specs.Choice.{pick}
 use Rattle.lists.specs.Lists.{same}
 use Rattle.lists.proofs.Lists.{same-is}
+use Rattle.words.specs.Words.{equalsSign}
 use Rattle.message.specs.Records.{good}
 use Rattle.message.specs.declared.Record.{Record}
 use Rattle.grammar.specs.Numbers.{numberOf}
 use Rattle.grammar.specs.Parts.{Marked, marked}
+use Rattle.grammar.specs.Placing.{is}
 use Rattle.grammar.specs.Runs.{advance, walk}
 use Rattle.grammar.specs.States.{State, Move}
 use Rattle.grammar.specs.States.Move.{goes, done, dead}
@@ -28,7 +30,7 @@ pub record Sound (s : State) (w : List ℕ) (next : State) : Type 0 where
 pub record Ended (s : State) (w : List ℕ) (r : Record) : Type 0 where
   pub isGood : good r ≡ true
   pub tells : toldRecord r ≡ told s
-  pub last : marked (mark s w) w ≡ marked 12 []
+  pub last : marked (mark s w) w ≡ marked 12 equalsSign
 
 pub data Fine (s : State) (w : List ℕ) : Move → Type 0 where
   leads : {next : State} → Sound s w next → Fine s w (goes next)
@@ -59,7 +61,7 @@ fine-as s s′ t k dies = dies
 -- the end of a good record that was told
 pub fine-end : (r : Record) (w : List ℕ) → good r ≡ true → Fine (atEnd r) w (stepEnd r w)
 unfolding told
-fine-end r w g = chosen (same w []) (λ e. ends (record { isGood = g; tells = refl; last = ap (marked 12) (same-is w [] e) })) (λ e. dies)
+fine-end r w g = chosen (is "=" w) (λ e. ends (record { isGood = g; tells = refl; last = ap (marked 12) (same-is w equalsSign e) })) (λ e. dies)
 
 -- Live: some words lead on to the end of a message, and the first of them belongs to the part that the state requires next.
 
@@ -77,7 +79,7 @@ next-by s w s′ e k n = record { word = w; rest = n .word ∷ n .rest; message 
 
 pub next-end : (r : Record) → Next (atEnd r)
 unfolding walk step same
-next-end r = record { word = []; rest = []; message = r; ends = refl; part = refl }
+next-end r = record { word = equalsSign; rest = []; message = r; ends = refl; part = refl }
 
 -- Words one by one.
 

@@ -15,6 +15,7 @@ use Rattle.lists.proofs.Choice.{by}
 use Rattle.lists.proofs.Lists.{all-at}
 use Rattle.words.specs.Bytes.{between}
 use Rattle.words.proofs.Ranges.{between-low, between-high}
+use Rattle.words.specs.Words.{equalsSign}
 use Rattle.message.specs.Limits.{ws, cta}
 use Rattle.message.specs.Words.{testTexts}
 use Rattle.message.specs.declared.Side.{Side}
@@ -200,17 +201,17 @@ Stops (goes s) = ⊥
 Stops (done r) = Unit {0}
 Stops dead = Unit {0}
 
--- no word of a test's text is empty
-test-word : (n read : ℕ) → between 1 3 n ≡ true → read < length (testText n) → same [] (getD (testText n) read []) ≡ false
+-- no word of a test's text is the `=`
+test-word : (n read : ℕ) → between 1 3 n ≡ true → read < length (testText n) → same equalsSign (getD (testText n) read []) ≡ false
 unfolding testTexts allOf same
 test-word n read b h =
     let low : 1 ≤ n = between-low 1 3 n b in
     let high : n ≤ 3 = between-high 1 3 n b in
-    let some : allOf (allOf (λ (k : List ℕ). not (same [] k))) testTexts ≡ true = refl in
-    let text : allOf (λ (k : List ℕ). not (same [] k)) (testText n) ≡ true = all-at (allOf (λ (k : List ℕ). not (same [] k))) testTexts [] some (n - 1) (omega arith) in
-    not-true (same [] (getD (testText n) read [])) (all-at (λ (k : List ℕ). not (same [] k)) (testText n) [] text read h)
+    let some : allOf (allOf (λ (k : List ℕ). not (same equalsSign k))) testTexts ≡ true = refl in
+    let text : allOf (λ (k : List ℕ). not (same equalsSign k)) (testText n) ≡ true = all-at (allOf (λ (k : List ℕ). not (same equalsSign k))) testTexts [] some (n - 1) (omega arith) in
+    not-true (same equalsSign (getD (testText n) read [])) (all-at (λ (k : List ℕ). not (same equalsSign k)) (testText n) [] text read h)
 
-pub end-stops : (s : State) → Ok s → Stops (step s [])
+pub end-stops : (s : State) → Ok s → Stops (step s equalsSign)
 unfolding step locating placeStep stepForm stepLevel stepEnding indexOf allOf same worthAfter places figuresOf lettersOf goodLetters coordinateOf goodCoordinate groupOf goodGroup periodOf goodPeriod timeOf goodTime typeWords designatorOf goodDesignator correctionOf goodCorrection officeOf sequenceOf goodSequence closingWords nameWord levelOf goodLevelWord compassWords intensityWords unitWords speedOf goodSpeed stormWords cancels
 end-stops atDesignator ok = tt
 end-stops (atCentre d) ok = tt

@@ -11,6 +11,7 @@ use Rattle.lists.specs.Lists.{allOf}
 use Rattle.lists.proofs.Choice.{clash, both-left, both-right, both-true}
 use Rattle.lists.proofs.Lists.{all-append}
 use Rattle.words.specs.Bytes.{between}
+use Rattle.words.specs.Words.{equalsSign}
 use Rattle.message.specs.Words.{headingWords, lineWords, areaWords}
 use Rattle.levels.specs.Levels.{levelWords}
 use Rattle.message.specs.Locations.{extentWords}
@@ -103,7 +104,7 @@ message-rises r =
     (then _ _ (part-rises {high = 5} 5 (lit≤ tt) (lit≤ tt) (drop 3 (headingWords (r .heading))))
     (then _ _ (part-rises {high = 6} 5 (lit≤ tt) (lit≤ tt) (lineWords (r .line)))
     (then _ _ (part-rises {high = 7} 6 (lit≤ tt) (lit≤ tt) (areaWords (r .area))) (form-rises r (r .form))))))
-    (part-rises 12 (lit≤ tt) (lit≤ tt) ([] ∷ []))
+    (part-rises 12 (lit≤ tt) (lit≤ tt) (equalsSign ∷ []))
 
 rises-all : {low high : ℕ} (x : Marked) (ms : List Marked) → Rises low ms high → List·Memᴰ x ms → low ≤ x .number
 rises-all x (m ∷ ms) (rising h r) (List·Memᴰ·head e) = rw e h

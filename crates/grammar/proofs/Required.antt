@@ -7,6 +7,7 @@ use mathlib.Core.Logic._⊎_.{inl}
 use mathlib.Core.Path.{_≡_, refl, ap, sym, subst, _∙_}
 use Prim.Native.Nat.{ℕ}
 use lib.Dec.{lit<}
+use Rattle.words.specs.Words.{equalsSign}
 use Rattle.coordinates.specs.Coordinates.{eastWest, coordinateOf, goodCoordinate}
 use Rattle.groups.specs.Groups.{timeOf, goodTime}
 use Rattle.message.specs.Records.{good}
@@ -102,7 +103,7 @@ module _ (sound : (s : State) (w : List ℕ) → Ok s → Fine s w (step s w)) w
   end-met : (s : State) (w : List ℕ) (ws : List (List ℕ)) (r : Record) (m : Move) → Fine s w m → walk m ws ≡ done r
       → ((next : State) → Ok next → walk (goes next) ws ≡ done r → Has 12 (marksOf (goes next) ws)) → Has 12 (marked (mark s w) w ∷ marksOf m ws)
   end-met s w ws r (goes next) (leads f) e rest = has-later (marked (mark s w) w) (rest next (f .ok) e)
-  end-met s w ws r (done q) (ends f) e rest = ([], List·Memᴰ·head (sym (f .last)))
+  end-met s w ws r (done q) (ends f) e rest = (equalsSign, List·Memᴰ·head (sym (f .last)))
   end-met s w ws r dead dies e rest = absurd (dead-done r (sym e ∙ walk-dead ws))
 
   end-has : (s : State) → Ok s → (ws : List (List ℕ)) (r : Record) → walk (goes s) ws ≡ done r → Has 12 (marksOf (goes s) ws)

@@ -15,7 +15,7 @@ use Rattle.lists.proofs.Choice.{by, clash, both-left, both-right, either-cases}
 use Rattle.lists.proofs.Lists.{all-append, all-weaken}
 use Rattle.words.specs.Bytes.{solid, equals, allowed, plain}
 use Rattle.words.specs.Check.{checkOf}
-use Rattle.words.specs.Words.{Word, wordsIn, solidWord, plainWord, line}
+use Rattle.words.specs.Words.{Word, equalsSign, wordsIn, solidWord, plainWord, line}
 use Rattle.words.proofs.Refusals.{check-readable, check-bare}
 use Rattle.words.proofs.Words.{run-all, gap-crlf, words-line, words-line-end}
 use Rattle.figures.proofs.PlainLaws.{plain-solid}
@@ -61,16 +61,16 @@ unfolding run
 run-number s [] n p e = absurd (unfinished-not e)
 run-number s (w ∷ ws) n p e = follow-number (step s (w .bytes)) s (w .place) ws n p (λ next h. run-number next ws n p h) e
 
-reply-accepted : (ran : Ran) (r : Record) → ((n p : ℕ) → ran ≡ refused n p → 3 ≤ n) → replyOf ran ≡ acceptance r → ran ≡ accepted r
-reply-accepted (accepted m) r h e = ap (λ (x : Reply). accepted (x .message)) e
-reply-accepted (refused n p) r h e = let z : n ≡ 0 = ap (λ (x : Reply). x .number) e in absurd (omega (arith, h n p refl))
-reply-accepted unfinished r h e = let z : _≡_ {A = ℕ} 3 0 = ap (λ (x : Reply). x .number) e in absurd (omega arith)
+reply-accepted : (t : List ℕ) (ran : Ran) (r : Record) → ((n p : ℕ) → ran ≡ refused n p → 3 ≤ n) → replyOf t ran ≡ acceptance r → ran ≡ accepted r
+reply-accepted t (accepted m) r h e = ap (λ (x : Reply). accepted (x .message)) e
+reply-accepted t (refused n p) r h e = let z : n ≡ 0 = ap (λ (x : Reply). x .number) e in absurd (omega (arith, h n p refl))
+reply-accepted t unfinished r h e = let z : _≡_ {A = ℕ} 3 0 = ap (λ (x : Reply). x .number) e in absurd (omega arith)
 
 pub read-accepted : (b : List ℕ) (r : Record) → readOf b ≡ acceptance r → (checkOf b .number ≡ 0) × (runAt atDesignator (textIn b) 0 ≡ accepted r)
 unfolding readOf runAt
 read-accepted b r e =
     by (eqb (checkOf b .number) 0)
-    (λ t. (eqb-true (checkOf b .number) 0 t, reply-accepted (runAt atDesignator (textIn b) 0) r (λ n p h. run-number atDesignator _ n p h) (rw t at e)))
+    (λ t. (eqb-true (checkOf b .number) 0 t, reply-accepted (textIn b) (runAt atDesignator (textIn b) 0) r (λ n p h. run-number atDesignator _ n p h) (rw t at e)))
     (λ f. let z : checkOf b .number ≡ 0 = ap (λ (x : Reply). x .number) (rw f at e) in clash (eqb (checkOf b .number) 0) (rw z) f)
 
 -- What stands before the `=` of a text.
@@ -164,7 +164,7 @@ module _
         )
         (line-all f space imp (bodyWords r) (plain-body r g))
 
-    text-checked : (r : Record) → good r ≡ true → length (textOf r) ≤ 2048 → checkOf (textOf r) ≡ record { number = 0; place = length (textBefore r) }
+    text-checked : (r : Record) → good r ≡ true → length (textOf r) ≤ 2048 → checkOf (textOf r) ≡ record { number = 0; place = length (textBefore r); length = 0 }
     unfolding allowed
     text-checked r g h =
         let long : length (textOf r) ≡ length (textBefore r) + 1 = ap length (text-split r) ∙ length-append (textBefore r) (61 ∷ []) in
@@ -186,7 +186,7 @@ module _
         words-line hs newLine (line ls ++ (newLine ++ line bs)) (solid-words hs (plain-heading (r .heading) (good-parts r g .heading))) gap-crlf
         ∙ (ap (λ (ws : List (List ℕ)). hs ++ ws) (words-line ls newLine (line bs) (solid-words ls (plain-line (r .line) (good-parts r g .line))) gap-crlf
         ∙ ap (λ (ws : List (List ℕ)). ls ++ ws) (words-line-end bs (solid-words bs (plain-body r g))))
-        ∙ sym (append-assoc hs (ls ++ bs) ([] ∷ []) ∙ ap (λ (ws : List (List ℕ)). hs ++ ws) (append-assoc ls bs ([] ∷ []))))
+        ∙ sym (append-assoc hs (ls ++ bs) (equalsSign ∷ []) ∙ ap (λ (ws : List (List ℕ)). hs ++ ws) (append-assoc ls bs (equalsSign ∷ []))))
 
     pub text-words : (r : Record) → good r ≡ true → length (textOf r) ≤ 2048 → wordsIn (textIn (textOf r)) ≡ messageWords r
     text-words r g h = rw (text-in r g h) (before-words r g)
@@ -206,7 +206,7 @@ module _
     -- a canonical text that is read is the text of its record
     pub canonical-is-text : (b : List ℕ) (r : Record) → readOf b ≡ acceptance r → Canonical b → b ≡ textOf r
     canonical-is-text b r e c =
-        let w : c .words ≡ wordsOf r = append-cancel-right (c .words) (wordsOf r) ([] ∷ []) (sym (c .theirs) ∙ read-good b r e .1) in
+        let w : c .words ≡ wordsOf r = append-cancel-right (c .words) (wordsOf r) (equalsSign ∷ []) (sym (c .theirs) ∙ read-good b r e .1) in
         c .layout ∙ rw w (laid-text r (read-good b r e .0))
 
     -- what is written is read as the record

@@ -7,7 +7,7 @@ use mathlib.Core.Path.{_≡_, ap, sym, _∙_}
 use Prim.Native.Nat.{ℕ, suc, _≤_}
 use lib.ListN.{length, take}
 use borrow.Author.Tests.{le-ltb}
-use Rattle.words.specs.Words.{Word}
+use Rattle.words.specs.Words.{Word, equalsSign}
 use Rattle.message.specs.Records.{good}
 use Rattle.message.specs.Words.{wordsOf, textOf}
 use Rattle.message.specs.declared.Record.{Record}
@@ -55,7 +55,7 @@ accepted-exactly ws r = (theorem-a ws r, λ h. ap (walk (goes atDesignator)) (h 
 -- … and two good records with the same words are equal.
 pub one-meaning : (q r : Record) → good q ≡ true → good r ≡ true → wordsOf q ≡ wordsOf r → q ≡ r
 one-meaning q r g h e =
-    let same : messageWords q ≡ messageWords r = ap (λ (ws : List (List ℕ)). ws ++ ([] ∷ [])) e in
+    let same : messageWords q ≡ messageWords r = ap (λ (ws : List (List ℕ)). ws ++ (equalsSign ∷ [])) e in
     done-same (sym (theorem-b q g) ∙ (ap (walk (goes atDesignator)) same ∙ theorem-b r h))
 
 -- The same of words with their places.
@@ -64,13 +64,13 @@ run-accepts-exactly ws r =
     (λ e. theorem-a (bytesOf ws) r (run-walks atDesignator ws r e), λ h. walk-runs atDesignator ws r (accepted-exactly (bytesOf ws) r .1 h))
 
 -- c and d. A run is refused by a number at a place exactly where `RefusedAt` says so: the words before begin an accepted message, with this word
--- they begin none, and the number is that of the part that the word is judged as.
-pub theorem-c-d : (ws : List Word) (number place : ℕ) → (run atDesignator ws ≡ refused number place) ↔ RefusedAt ws number place
+-- they begin none, and the number is that of the part that the word is judged as. The length is that word's.
+pub theorem-c-d : (ws : List Word) (number place : ℕ) → (run atDesignator ws ≡ refused number place) ↔ ((long : ℕ) × RefusedAt ws number place long)
 theorem-c-d ws n p = refused-exactly sound next good-accepted ws n p
 
 -- d. The number is 12 exactly where the words before also make an accepted message with the `=`.
-pub theorem-d-twelve : (ws : List Word) (number place : ℕ) (r : RefusedAt ws number place) → (number ≡ 12) ↔ Whole (bytesOf (r .before) ++ ([] ∷ []))
-theorem-d-twelve ws n p r = twelve-exactly sound next good-accepted ws n p r
+pub theorem-d-twelve : (ws : List Word) (number place long : ℕ) (r : RefusedAt ws number place long) → (number ≡ 12) ↔ Whole (bytesOf (r .before) ++ (equalsSign ∷ []))
+theorem-d-twelve ws n p long r = twelve-exactly sound next good-accepted ws n p long r
 
 -- d. Every accepted message that begins with the words before still has a word of the part that the next word is judged as, …
 pub theorem-d-required : (ws : List (List ℕ)) (part : ℕ) → JudgedAs ws part → (r : Record) → good r ≡ true

@@ -6,7 +6,7 @@ use mathlib.Core.Logic._⊎_.{inl, inr}
 use mathlib.Core.Path.{_≡_, refl, ap, sym, subst, _∙_}
 use Prim.Native.Nat.{ℕ, _≤_}
 use native.Mathlib.Omega.{arith}
-use Rattle.words.specs.Words.{Word}
+use Rattle.words.specs.Words.{Word, equalsSign}
 use Rattle.message.specs.Records.{good}
 use Rattle.message.specs.Words.{wordsOf}
 use Rattle.message.specs.declared.Record.{Record}
@@ -40,23 +40,23 @@ front-same (z ∷ xs) (t ∷ ys) x y e =
     rw (head, front-same xs ys x y tail)
 
 -- the part 12 comes next exactly after all words of a message
-pub twelve-whole : (ws : List (List ℕ)) → ComesNext ws 12 → Whole (ws ++ ([] ∷ []))
+pub twelve-whole : (ws : List (List ℕ)) → ComesNext ws 12 → Whole (ws ++ (equalsSign ∷ []))
 twelve-whole ws c =
-    let last : (c .before ≡ partsOf (c .message)) × (marked 12 (c .word) ≡ marked 12 []) =
-    other-last (marked 12 (c .word)) refl (c .before) (c .rest) (partsOf (c .message)) (marked 12 []) (words-parts (c .message)) (c .parts)
+    let last : (c .before ≡ partsOf (c .message)) × (marked 12 (c .word) ≡ marked 12 equalsSign) =
+    other-last (marked 12 (c .word)) refl (c .before) (c .rest) (partsOf (c .message)) (marked 12 equalsSign) (words-parts (c .message)) (c .parts)
     in
     let words : ws ≡ wordsOf (c .message) = sym (c .words) ∙ (ap unmarked (last .0) ∙ parts-words (c .message)) in
-    record { message = c .message; isGood = c .isGood; words = ap (λ (vs : List (List ℕ)). vs ++ ([] ∷ [])) words }
+    record { message = c .message; isGood = c .isGood; words = ap (λ (vs : List (List ℕ)). vs ++ (equalsSign ∷ [])) words }
 
-pub whole-twelve : (ws : List (List ℕ)) → Whole (ws ++ ([] ∷ [])) → ComesNext ws 12
+pub whole-twelve : (ws : List (List ℕ)) → Whole (ws ++ (equalsSign ∷ [])) → ComesNext ws 12
 whole-twelve ws w = record {
   message = w .message;
   isGood = w .isGood;
   before = partsOf (w .message);
-  word = [];
+  word = equalsSign;
   rest = [];
   parts = refl;
-  words = parts-words (w .message) ∙ sym (front-same ws (wordsOf (w .message)) [] [] (w .words));
+  words = parts-words (w .message) ∙ sym (front-same ws (wordsOf (w .message)) equalsSign equalsSign (w .words));
 }
 
 module _
@@ -64,18 +64,18 @@ module _
     (next : (s : State) → Ok s → Next s)
     (forth : (r : Record) → good r ≡ true → walk (goes atDesignator) (messageWords r) ≡ done r)
   where
-    twelve-to : (ws : List (List ℕ)) (n : ℕ) → Numbered ws n → n ≡ 12 → Whole (ws ++ ([] ∷ []))
+    twelve-to : (ws : List (List ℕ)) (n : ℕ) → Numbered ws n → n ≡ 12 → Whole (ws ++ (equalsSign ∷ []))
     twelve-to ws n (inl j) e = twelve-whole ws (subst (λ (k : ℕ). ComesNext ws k) e (j .comes))
     twelve-to ws n (inr w) e = absurd (let three : n ≡ 3 = w .1 in omega arith)
 
     -- a walk at its end takes no other `=`
-    one-end : (ws : List (List ℕ)) (r : Record) → walk start ws ≡ done r → Whole (ws ++ ([] ∷ [])) → ⊥
+    one-end : (ws : List (List ℕ)) (r : Record) → walk start ws ≡ done r → Whole (ws ++ (equalsSign ∷ [])) → ⊥
     unfolding walk
     one-end ws r e w =
-        let ended : walk start (ws ++ ([] ∷ [])) ≡ done (w .message) = whole-done sound next forth (ws ++ ([] ∷ [])) w in
-        dead-done (w .message) (sym ended ∙ (walk-append start ws ([] ∷ []) ∙ rw e))
+        let ended : walk start (ws ++ (equalsSign ∷ [])) ≡ done (w .message) = whole-done sound next forth (ws ++ (equalsSign ∷ [])) w in
+        dead-done (w .message) (sym ended ∙ (walk-append start ws (equalsSign ∷ []) ∙ rw e))
 
-    twelve-from : (ws : List (List ℕ)) (n : ℕ) (m : Move) → walk start ws ≡ m → Alive m → Numbered ws n → Whole (ws ++ ([] ∷ [])) → n ≡ 12
+    twelve-from : (ws : List (List ℕ)) (n : ℕ) (m : Move) → walk start ws ≡ m → Alive m → Numbered ws n → Whole (ws ++ (equalsSign ∷ [])) → n ≡ 12
     twelve-from ws n (goes s) e a (inl j) w =
         let same : n ≡ numberOf s = numbers-one sound next forth ws n (goes s) e going (inl j) in
         let up : 12 ≤ n = j .greatest 12 (whole-twelve ws w) in
@@ -89,7 +89,7 @@ module _
     twelve-from ws n (done r) e a x w = absurd (one-end ws r e w)
 
     -- 12 "goes before 4 to 11": exactly where the `=` would also be accepted
-    pub twelve-exactly : (ws : List Word) (n p : ℕ) (r : RefusedAt ws n p) → (n ≡ 12) ↔ Whole (bytesOf (r .before) ++ ([] ∷ []))
-    twelve-exactly ws n p r =
+    pub twelve-exactly : (ws : List Word) (n p long : ℕ) (r : RefusedAt ws n p long) → (n ≡ 12) ↔ Whole (bytesOf (r .before) ++ (equalsSign ∷ []))
+    twelve-exactly ws n p long r =
         let before : List (List ℕ) = bytesOf (r .before) in
         (twelve-to before n (r .numbered), twelve-from before n (walk start before) refl (begun-alive sound next forth before (walk start before) refl (r .begins)) (r .numbered))

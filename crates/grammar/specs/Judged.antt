@@ -6,15 +6,16 @@ use mathlib.Core.List.{List, [], _∷_, _++_, map}
 use mathlib.Core.Logic.{_⊎_}
 use mathlib.Core.Path.{_≡_}
 use Prim.Native.Nat.{ℕ, _≤_}
-use Rattle.words.specs.Words.{Word}
+use lib.ListN.{length}
+use Rattle.words.specs.Words.{Word, equalsSign}
 use Rattle.message.specs.Records.{good}
 use Rattle.message.specs.Words.{wordsOf}
 use Rattle.message.specs.declared.Record.{Record}
 use Rattle.grammar.specs.Parts.{Marked, marked, messageParts}
 
--- the words of a message and its `=`, the word of no byte
+-- the words of a message and its `=`
 abbrev pub messageWords : Record → List (List ℕ)
-messageWords r = wordsOf r ++ ([] ∷ [])
+messageWords r = wordsOf r ++ (equalsSign ∷ [])
 
 abbrev pub bytesOf : List Word → List (List ℕ)
 bytesOf ws = map (λ (w : Word). w .bytes) ws
@@ -53,13 +54,14 @@ abbrev pub Numbered : List (List ℕ) → ℕ → Type 0
 Numbered ws number = JudgedAs ws number ⊎ (Whole ws × (number ≡ 3))
 
 -- "refused by a number and the place our paper fixes for it": the word at that place is the first that, with those before it, begins no
--- accepted message
-pub record RefusedAt (ws : List Word) (number place : ℕ) : Type 0 where
+-- accepted message; 02, CR 4: "a length: that of the word for 4 to 12, 1 for `=`", which is a word of one byte
+pub record RefusedAt (ws : List Word) (number place long : ℕ) : Type 0 where
   pub before : List Word
   pub word : Word
   pub rest : List Word
   pub split : ws ≡ before ++ (word ∷ rest)
   pub there : word .place ≡ place
+  pub as-long : length (word .bytes) ≡ long
   pub begins : Begins (bytesOf before)
   pub ends : Begins (bytesOf before ++ (word .bytes ∷ [])) → ⊥
   pub numbered : Numbered (bytesOf before) number

@@ -7,7 +7,7 @@ use Prim.Native.Nat.{ℕ, _+_}
 use lib.ListN.{take, drop, getD}
 use Rattle.lists.specs.Choice.{pick}
 use Rattle.lists.specs.Text.{bytes}
-use Rattle.words.specs.Words.{wordsIn, line}
+use Rattle.words.specs.Words.{equalsSign, wordsIn, line}
 use Rattle.headings.specs.Headings.{correctionOf, goodCorrection}
 use Rattle.message.specs.Words.{newLine}
 use Rattle.grammar.specs.Bulletins.{textIn}
@@ -22,5 +22,5 @@ laidOut k ws = line (take k ws) ++ (newLine ++ (line (take 6 (drop k ws)) ++ (ne
 -- a bulletin in canonical layout: it is its own words, so laid out
 pub record Canonical (b : List ℕ) : Type 0 where
   pub words : List (List ℕ)
-  pub theirs : wordsIn (textIn b) ≡ words ++ ([] ∷ [])
+  pub theirs : wordsIn (textIn b) ≡ words ++ (equalsSign ∷ [])
   pub layout : b ≡ laidOut (headingCount words) words

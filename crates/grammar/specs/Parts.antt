@@ -4,6 +4,7 @@
 use mathlib.Core.List.{List, [], _∷_, _++_, map}
 use Prim.Native.Nat.{ℕ}
 use lib.ListN.{take, drop}
+use Rattle.words.specs.Words.{equalsSign}
 use Rattle.levels.specs.Levels.{levelWords}
 use Rattle.message.specs.Locations.{extentWords}
 use Rattle.message.specs.Reports.{phenomenonWords, observationWords, endingWords}
@@ -47,6 +48,6 @@ partsOf r =
     ++ (inPart 5 (drop 3 (headingWords (r .heading)))
     ++ (inPart 5 (lineWords (r .line)) ++ (inPart 6 (areaWords (r .area)) ++ formParts r (r .form))))
 
--- with the `=`, the word of no byte, which has a number of its own: 12 is "a word where `=` would also be accepted"
+-- with the `=`, which has a number of its own: 12 is "a word where `=` would also be accepted"
 abbrev pub messageParts : Record → List Marked
-messageParts r = partsOf r ++ (marked 12 [] ∷ [])
+messageParts r = partsOf r ++ (marked 12 equalsSign ∷ [])

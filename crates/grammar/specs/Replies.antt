@@ -14,9 +14,9 @@ use Rattle.grammar.specs.declared.Reply.{Reply}
 
 pub data Replied (b : List ℕ) : Reply → Type 0 where
   -- 1 to 3: no words can be read
-  unreadable : 0 < checkOf b .number → Replied b (refusal (checkOf b .number) (checkOf b .place))
+  unreadable : 0 < checkOf b .number → Replied b (refusal (checkOf b .number) (checkOf b .place) (checkOf b .length))
   -- the words before the first `=`, with it, are those of a good record
   readAs : {r : Record} → checkOf b .number ≡ 0 → good r ≡ true → wordsIn (textIn b) ≡ messageWords r → Replied b (acceptance r)
   -- 4 to 12: "the word is the first that, with those before it, begins no accepted message"
-  refusedAs : {number place : ℕ} → checkOf b .number ≡ 0 → 4 ≤ number → number ≤ 12 → RefusedAt (wordsAt (textIn b) 0) number place
-      → Replied b (refusal number place)
+  refusedAs : {number place long : ℕ} → checkOf b .number ≡ 0 → 4 ≤ number → number ≤ 12 → RefusedAt (wordsAt (textIn b) 0) number place long
+      → Replied b (refusal number place long)

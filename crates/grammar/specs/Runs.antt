@@ -15,7 +15,7 @@ advance (goes s) w = step s w
 advance (done r) w = dead
 advance dead w = dead
 
--- the words one by one, the `=` as the word of no byte
+-- the words one by one
 unfoldable pub walk : Move → List (List ℕ) → Move
 walk m [] = m
 walk m (w ∷ ws) = walk (advance m w) ws

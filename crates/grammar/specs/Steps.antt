@@ -47,9 +47,8 @@ use Rattle.grammar.specs.States.Move.{goes, done, dead}
 abbrev pub goesIf : Bool → State → Move
 goesIf t s = pick t (goes s) dead
 
--- the `=` is the word of no byte
 abbrev pub stepEnd : Record → List ℕ → Move
-stepEnd r w = pick (same w []) (done r) dead
+stepEnd r w = pick (is "=" w) (done r) dead
 
 -- "Heading: …; then perhaps a correction, `CCA` to `CCX`." "First line: four letters (unit), …"
 abbrev pub stepUnit : Heading → List ℕ → Move

@@ -6,10 +6,10 @@ use Prim.Native.Nat.{ℕ, zero, suc, _+_, _-_, _≤_, _<_, zero-le, suc-le-suc}
 use native.Mathlib.Nat.{zero-add, suc-add, add-zero, not-suc-le-zero, le-of-suc-le-suc}
 use native.Mathlib.Numerals.{add-one}
 use native.Mathlib.Omega.{arith}
-use lib.Dec.{eqb}
+use lib.Dec.{eqb, ltb}
 use lib.ListN.{length, take, drop, getD, set, length-drop, drop-of-length-le}
-use lib.Seq.{drop-cons, take-all, length-take-le}
-use borrow.Author.Tests.{eq-eqb, eqb-true}
+use lib.Seq.{drop-cons, take-all, length-take-le, getD-drop}
+use borrow.Author.Tests.{eq-eqb, eqb-true, ltb-true, ltb-false}
 use Rattle.lists.specs.Choice.{pick, both}
 use Rattle.lists.specs.Lists.{indexOf, indexFrom, allOf, part, same}
 use Rattle.lists.proofs.Choice.{by, clash, both-left, both-right, both-true}
@@ -57,6 +57,16 @@ pub index-found : {A : Type 0} (f : A → Bool) (xs : List A) (d : A) → indexO
 unfolding indexOf
 index-found f [] d h = absurd (not-suc-le-zero h)
 index-found f (x ∷ xs) d h = by (f x) (λ e. rw e e) (λ e. rw e (index-found f xs d (le-of-suc-le-suc (rw e at h))))
+
+pub from-found : {A : Type 0} (f : A → Bool) (xs : List A) (i : ℕ) (d : A) → indexFrom f i xs < length xs → f (getD xs (indexFrom f i xs) d) ≡ true
+from-found f xs i d h = rw getD-drop at (index-found f (drop i xs) d (omega (arith, length-drop i xs)))
+
+-- and is found again from its own place
+pub from-again : {A : Type 0} (f : A → Bool) (xs : List A) (i : ℕ) (d : A) → indexFrom f (indexFrom f i xs) xs ≡ indexFrom f i xs
+from-again f xs i d =
+    by (ltb (indexFrom f i xs) (length xs))
+    (λ e. from-here f xs (indexFrom f i xs) d (ltb-true _ _ e) (from-found f xs i d (ltb-true _ _ e)))
+    (λ e. from-none f xs (indexFrom f i xs) (ltb-false _ _ e))
 
 pub index-before : {A : Type 0} (f : A → Bool) (xs : List A) (d : A) (k : ℕ) → k < indexOf f xs → f (getD xs k d) ≡ false
 unfolding indexOf

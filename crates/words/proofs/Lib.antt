@@ -2,4 +2,5 @@ pub mod Ranges
 pub mod Walk
 pub mod Refusals
 pub mod Words
+pub mod Lengths
 pub mod Determined

@@ -18,31 +18,31 @@ use Rattle.words.specs.Bytes.{allowed, letter, digit, punctuation, brack
 use Rattle.words.specs.Check.{checkOf, barredAt, equalsAt, afterAt}
 use Rattle.words.specs.declared.Checked.{Checked}
 
-pub refused-empty : (b : List ℕ) → length b ≡ 0 → _≡_ {A = Checked} (record { number = 1; place = 0 }) (checkOf b)
+pub refused-empty : (b : List ℕ) → length b ≡ 0 → _≡_ {A = Checked} (record { number = 1; place = 0; length = 0 }) (checkOf b)
 unfolding checkOf
 refused-empty b h = rw (eq-eqb (length b) 0 h)
 
-pub refused-long : (b : List ℕ) → (length b ≡ 0 → ⊥) → 2048 < length b → _≡_ {A = Checked} (record { number = 1; place = 0 }) (checkOf b)
+pub refused-long : (b : List ℕ) → (length b ≡ 0 → ⊥) → 2048 < length b → _≡_ {A = Checked} (record { number = 1; place = 0; length = 0 }) (checkOf b)
 unfolding checkOf
 refused-long b some h = rw (ne-eqb (length b) 0 some, lt-ltb 2048 (length b) h)
 
 module _ (b : List ℕ) (some : length b ≡ 0 → ⊥) (fits : length b ≤ 2048) where
-  pub refused-barred : {r : ℕ} → r ≡ barredAt b → r < length b → _≡_ {A = Checked} (record { number = 2; place = r }) (checkOf b)
+  pub refused-barred : {r : ℕ} → r ≡ barredAt b → r < length b → _≡_ {A = Checked} (record { number = 2; place = r; length = 1 }) (checkOf b)
   unfolding checkOf
   refused-barred e h = rw (ne-eqb (length b) 0 some, le-ltb 2048 (length b) fits, ← e, lt-ltb _ (length b) h)
 
   pub refused-no-equals : {r s : ℕ} → r ≡ barredAt b → length b ≤ r → s ≡ equalsAt b → s ≡ length b
-      → _≡_ {A = Checked} (record { number = 3; place = length b }) (checkOf b)
+      → _≡_ {A = Checked} (record { number = 3; place = length b; length = 0 }) (checkOf b)
   unfolding checkOf
   refused-no-equals e h f k = rw (ne-eqb (length b) 0 some, le-ltb 2048 (length b) fits, ← e, le-ltb _ (length b) h, ← f, eq-eqb _ (length b) k)
 
   module _ {r s t : ℕ} (e : r ≡ barredAt b) (h : length b ≤ r) (f : s ≡ equalsAt b) (k : s ≡ length b → ⊥) (g : t ≡ indexFrom solid (s + 1) b) where
-    pub refused-after : t < length b → _≡_ {A = Checked} (record { number = 3; place = t }) (checkOf b)
+    pub refused-after : t < length b → _≡_ {A = Checked} (record { number = 3; place = t; length = 1 }) (checkOf b)
     unfolding checkOf
     refused-after l =
         rw (ne-eqb (length b) 0 some, le-ltb 2048 (length b) fits, ← e, le-ltb r (length b) h, ← f, ne-eqb s (length b) k, ← g, lt-ltb t (length b) l)
 
-    pub not-refused : length b ≤ t → _≡_ {A = Checked} (record { number = 0; place = s }) (checkOf b)
+    pub not-refused : length b ≤ t → _≡_ {A = Checked} (record { number = 0; place = s; length = 0 }) (checkOf b)
     unfolding checkOf
     not-refused l =
         rw (ne-eqb (length b) 0 some, le-ltb 2048 (length b) fits, ← e, le-ltb r (length b) h, ← f, ne-eqb s (length b) k, ← g, le-ltb t (length b) l)
@@ -50,11 +50,11 @@ module _ (b : List ℕ) (some : length b ≡ 0 → ⊥) (fits : length b ≤ 204
 -- What `checkOf` tells.
 
 -- a claim about `checkOf b` is one for each line of the table
-pub check-cases : (A : Checked → Type 0) (b : List ℕ) → A (record { number = 1; place = 0 })
-    → (barredAt b < length b → A (record { number = 2; place = barredAt b }))
-    → A (record { number = 3; place = length b })
-    → (afterAt b < length b → A (record { number = 3; place = afterAt b }))
-    → ((length b ≡ 0 → ⊥) → length b ≤ 2048 → length b ≤ barredAt b → (equalsAt b ≡ length b → ⊥) → length b ≤ afterAt b → A (record { number = 0; place = equalsAt b }))
+pub check-cases : (A : Checked → Type 0) (b : List ℕ) → A (record { number = 1; place = 0; length = 0 })
+    → (barredAt b < length b → A (record { number = 2; place = barredAt b; length = 1 }))
+    → A (record { number = 3; place = length b; length = 0 })
+    → (afterAt b < length b → A (record { number = 3; place = afterAt b; length = 1 }))
+    → ((length b ≡ 0 → ⊥) → length b ≤ 2048 → length b ≤ barredAt b → (equalsAt b ≡ length b → ⊥) → length b ≤ afterAt b → A (record { number = 0; place = equalsAt b; length = 0 }))
     → A (checkOf b)
 unfolding checkOf
 check-cases A b one two none after good =
@@ -132,7 +132,7 @@ module _ (t s : List ℕ) (good : allOf allowed t ≡ true) (free : allOf (λ (x
   text-after : length (t ++ (61 ∷ s)) ≡ indexFrom solid (length t + 1) (t ++ (61 ∷ s))
   text-after = rw (drop-append-add t (61 ∷ s) 1, index-none solid s (all-not-not blank s ∙ after), length-append) (omega arith)
 
-  pub check-text : length t + length s < 2048 → checkOf (t ++ (61 ∷ s)) ≡ record { number = 0; place = length t }
+  pub check-text : length t + length s < 2048 → checkOf (t ++ (61 ∷ s)) ≡ record { number = 0; place = length t; length = 0 }
   check-text h =
       let b : List ℕ = t ++ (61 ∷ s) in
       let long : length b ≡ length t + suc (length s) = length-append t (61 ∷ s) in
@@ -140,6 +140,6 @@ module _ (t s : List ℕ) (good : allOf allowed t ≡ true) (free : allOf (λ (x
 
 -- a text and its `=`, nothing after it
 pub check-bare : (t : List ℕ) → allOf allowed t ≡ true → allOf (λ (x : ℕ). not (equals x)) t ≡ true → length t < 2048
-    → checkOf (t ++ (61 ∷ [])) ≡ record { number = 0; place = length t }
+    → checkOf (t ++ (61 ∷ [])) ≡ record { number = 0; place = length t; length = 0 }
 unfolding allOf
 check-bare t good free h = check-text t [] good free refl (rw add-zero h)

@@ -1,9 +1,9 @@
 -- The laws of words: what the next word is, what every word is, and that joining words and reading them undo one another.
-use mathlib.Core.Bool.{Bool, true, false}
+use mathlib.Core.Bool.{Bool, true, false, not}
 use mathlib.Core.List.{List, [], _∷_, _++_, map, append-nil, append-assoc}
 use mathlib.Core.Path.{_≡_, refl, ap, sym, _∙_}
 use Prim.Native.Nat.{ℕ, suc, _+_, _-_, _≤_, _<_, zero-le, suc-le-suc}
-use native.Mathlib.Nat.{suc-add, add-suc, add-zero, not-suc-le-zero}
+use native.Mathlib.Nat.{suc-add, add-suc, add-zero, zero-add, not-suc-le-zero}
 use native.Mathlib.Omega.{arith}
 use lib.Dec.{ltb}
 use lib.ListN.{length, take, drop, getD, length-drop}
@@ -11,10 +11,10 @@ use lib.Seq.{drop-drop, append-snoc, length-take-le, drop-length, getD-drop}
 use borrow.Author.Tests.{lt-ltb, ltb-true, not-true}
 use Rattle.lists.specs.Lists.{indexOf, indexFrom, allOf, part}
 use Rattle.lists.proofs.Choice.{by, both-left, both-right, both-true}
-use Rattle.lists.proofs.Lists.{all-append, index-found, index-within, from-within, from-none}
-use Rattle.words.specs.Bytes.{blank, solid}
+use Rattle.lists.proofs.Lists.{all-append, index-within, from-found, from-within, from-none}
+use Rattle.words.specs.Bytes.{allowed, blank, solid, equals, plain}
 use Rattle.words.specs.declared.Span.{Span}
-use Rattle.words.specs.Words.{Word, ended, scan, wordsAt, wordsIn, spanOf, runOf, solidWord, gap, line}
+use Rattle.words.specs.Words.{Word, equalsSign, ended, scan, wordsAt, wordsIn, spanOf, runOf, solidWord, plainWord, gap, line}
 
 -- One word further.
 
@@ -80,9 +80,7 @@ words-here t s h some =
 
 -- a word begins with a solid byte
 solid-start : (t : List ℕ) (p : ℕ) → startAt t p < length t → blank (getD t (startAt t p) 0) ≡ false
-solid-start t p h =
-    let found : solid (getD (drop p t) (indexOf solid (drop p t)) 0) ≡ true = index-found solid (drop p t) 0 (rw length-drop (omega arith)) in
-    not-true (blank (getD t (startAt t p) 0)) (rw (getD-drop p t (indexOf solid (drop p t)) 0) at found)
+solid-start t p h = not-true (blank (getD t (startAt t p) 0)) (from-found solid t p 0 h)
 
 -- so it is not empty
 blank-later : (t : List ℕ) (p : ℕ) → startAt t p < length t → 0 < indexOf blank (drop (startAt t p) t)
@@ -103,7 +101,7 @@ next-word t p h = words-skip t p ∙ words-here t (startAt t p) (omega arith) (b
 pub last-start : (t : List ℕ) (p : ℕ) → p ≤ length t → length t ≤ startAt t p → startAt t p ≡ length t
 last-start t p h k = omega (arith, from-within solid t p h)
 
-pub last-word : (t : List ℕ) (p : ℕ) → p ≤ length t → length t ≤ startAt t p → wordsAt t p ≡ record { place = length t; bytes = [] } ∷ []
+pub last-word : (t : List ℕ) (p : ℕ) → p ≤ length t → length t ≤ startAt t p → wordsAt t p ≡ record { place = length t; bytes = equalsSign } ∷ []
 unfolding scan
 last-word t p h k = words-skip t p ∙ rw (last-start t p h k, drop-length t)
 
@@ -115,7 +113,7 @@ pub record Next (t : List ℕ) (p : ℕ) (r : Span) : Type 0 where
   pub within : r .end ≤ length t
 
 pub record Last (t : List ℕ) (p : ℕ) (r : Span) : Type 0 where
-  pub words : wordsAt t p ≡ record { place = length t; bytes = [] } ∷ []
+  pub words : wordsAt t p ≡ record { place = length t; bytes = equalsSign } ∷ []
   pub starts : r .start ≡ length t
   pub ends : r .end ≡ length t
 
@@ -131,35 +129,42 @@ span-last t p r e h k =
     let l : length t ≤ startAt t p = rw e at k in
     rw e (record { words = last-word t p h l; starts = last-start t p h l; ends = from-none blank t (startAt t p) l ∙ last-start t p h l })
 
--- Every word but the last is a run without blanks.
+-- Every word but the last is a plain word, where the text has allowed bytes only and no `=`.
 
--- some words that are not empty and have only solid bytes, and then the `=` at place q
-pub record Solids (q : ℕ) (ws : List Word) : Type 0 where
+-- some plain words, and then the `=` at place q
+pub record Plains (q : ℕ) (ws : List Word) : Type 0 where
   pub front : List Word
-  pub words : ws ≡ front ++ (record { place = q; bytes = [] } ∷ [])
-  pub solids : allOf (λ (w : Word). solidWord (w .bytes)) front ≡ true
+  pub words : ws ≡ front ++ (record { place = q; bytes = equalsSign } ∷ [])
+  pub plains : allOf (λ (w : Word). plainWord (w .bytes)) front ≡ true
 
-ended-solids : (w : List ℕ) (p q : ℕ) (ws : List Word) → allOf solid w ≡ true → Solids q ws → Solids q (ended w p ws)
+ended-plains : (w : List ℕ) (p q : ℕ) (ws : List Word) → allOf plain w ≡ true → Plains q ws → Plains q (ended w p ws)
 unfolding allOf
-ended-solids [] p q ws t f = f
-ended-solids (b ∷ w) p q ws t f = record {
+ended-plains [] p q ws t f = f
+ended-plains (b ∷ w) p q ws t f = record {
   front = record { place = p - length (b ∷ w); bytes = b ∷ w } ∷ f .front;
   words = ap (λ (r : List Word). record { place = p - length (b ∷ w); bytes = b ∷ w } ∷ r) (f .words);
-  solids = both-true (run-of solid (b ∷ w) (suc-le-suc zero-le) t) (f .solids);
+  plains = both-true (run-of plain (b ∷ w) (suc-le-suc zero-le) t) (f .plains);
 }
 
-scan-solids : (p : ℕ) (w t : List ℕ) → allOf solid w ≡ true → Solids (p + length t) (scan p w t)
-unfolding scan allOf
-scan-solids p w [] e = rw add-zero (ended-solids w p p (record { place = p; bytes = [] } ∷ []) e (record { front = []; words = refl; solids = refl }))
-scan-solids p w (b ∷ bs) e = by (blank b)
-    (λ h. rw (h, add-suc, ← (suc-add p (length bs))) (ended-solids w p (suc p + length bs) (scan (suc p) [] bs) e (scan-solids (suc p) [] bs refl)))
-    (λ h. rw (h, add-suc, ← (suc-add p (length bs))) (scan-solids (suc p) (w ++ (b ∷ [])) bs (rw (all-append solid w (b ∷ []), e, h))))
+-- a byte is no `=`
+abbrev pub unequal : ℕ → Bool
+unequal x = not (equals x)
 
-pub words-solid : (t : List ℕ) (p : ℕ) → p ≤ length t → Solids (length t) (wordsAt t p)
+scan-plains : (p : ℕ) (w t : List ℕ) → allOf plain w ≡ true → allOf allowed t ≡ true → allOf unequal t ≡ true → Plains (p + length t) (scan p w t)
+unfolding scan allOf
+scan-plains p w [] e a f = rw add-zero (ended-plains w p p (record { place = p; bytes = equalsSign } ∷ []) e (record { front = []; words = refl; plains = refl }))
+scan-plains p w (b ∷ bs) e a f =
+    let allows : allOf allowed bs ≡ true = both-right (allowed b) (allOf allowed bs) a in
+    let frees : allOf unequal bs ≡ true = both-right (unequal b) (allOf unequal bs) f in
+    by (blank b)
+    (λ h. rw (h, add-suc, ← (suc-add p (length bs))) (ended-plains w p (suc p + length bs) (scan (suc p) [] bs) e (scan-plains (suc p) [] bs refl allows frees)))
+    (λ h.
+    let one : plain b ≡ true = rw (both-left (allowed b) (allOf allowed bs) a, h) (both-left (unequal b) (allOf unequal bs) f) in
+    rw (h, add-suc, ← (suc-add p (length bs))) (scan-plains (suc p) (w ++ (b ∷ [])) bs (rw (all-append plain w (b ∷ []), e, one)) allows frees))
+
+pub words-plain : (t : List ℕ) → allOf allowed t ≡ true → allOf unequal t ≡ true → Plains (length t) (wordsAt t 0)
 unfolding allOf
-words-solid t p h =
-    let e : p + length (drop p t) ≡ length t = rw length-drop (omega arith) in
-    rw e at (scan-solids p [] (drop p t) refl)
+words-plain t a f = rw zero-add at (scan-plains 0 [] t refl a f)
 
 -- Reading words back.
 
@@ -175,7 +180,7 @@ bytes-ended (b ∷ w) p q us vs e = rw e
 -- the place where a scan begins tells in the places only
 pub bytes-placeless : (p q : ℕ) (w t : List ℕ) → bytesFrom p w t ≡ bytesFrom q w t
 unfolding scan
-bytes-placeless p q w [] = bytes-ended w p q (record { place = p; bytes = [] } ∷ []) (record { place = q; bytes = [] } ∷ []) refl
+bytes-placeless p q w [] = bytes-ended w p q (record { place = p; bytes = equalsSign } ∷ []) (record { place = q; bytes = equalsSign } ∷ []) refl
 bytes-placeless p q w (b ∷ bs) = by (blank b)
     (λ e. rw e (bytes-ended w p q (scan (suc p) [] bs) (scan (suc q) [] bs) (bytes-placeless (suc p) (suc q) [] bs)))
     (λ e. rw e (bytes-placeless (suc p) (suc q) (w ++ (b ∷ [])) bs))
@@ -210,11 +215,11 @@ pub words-join : (w s rest : List ℕ) → solidWord w ≡ true → gap s ≡ tr
 words-join w s rest e t = bytes-solid 0 [] w (s ++ rest) (run-all solid w e) ∙ bytes-break 0 w s rest (run-some solid w e) t
 
 -- a word alone
-pub words-one : (w : List ℕ) → solidWord w ≡ true → wordsIn w ≡ w ∷ ([] ∷ [])
+pub words-one : (w : List ℕ) → solidWord w ≡ true → wordsIn w ≡ w ∷ (equalsSign ∷ [])
 unfolding scan
 words-one w e =
     ap (λ (t : List ℕ). bytesFrom 0 [] t) (sym (append-nil w))
-    ∙ (bytes-solid 0 [] w [] (run-all solid w e) ∙ rw (ended-some w 0 (record { place = 0; bytes = [] } ∷ []) (run-some solid w e)))
+    ∙ (bytes-solid 0 [] w [] (run-all solid w e) ∙ rw (ended-some w 0 (record { place = 0; bytes = equalsSign } ∷ []) (run-some solid w e)))
 
 pub gap-space : gap (32 ∷ []) ≡ true
 unfolding allOf
@@ -235,7 +240,7 @@ words-line (w ∷ v ∷ ws) s rest t e =
     ∙ ap (λ (r : List (List ℕ)). w ∷ r) (words-line (v ∷ ws) s rest (both-right (solidWord w) (allOf solidWord (v ∷ ws)) t) e))
 
 -- words joined by single spaces, and nothing more
-pub words-line-end : (ws : List (List ℕ)) → allOf solidWord ws ≡ true → wordsIn (line ws) ≡ ws ++ ([] ∷ [])
+pub words-line-end : (ws : List (List ℕ)) → allOf solidWord ws ≡ true → wordsIn (line ws) ≡ ws ++ (equalsSign ∷ [])
 unfolding line allOf scan
 words-line-end [] t = refl
 words-line-end (w ∷ []) t = words-one w (both-left (solidWord w) (allOf solidWord []) t)

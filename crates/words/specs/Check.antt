@@ -1,4 +1,5 @@
--- 01, "Refusal numbers", reader, numbers 1 to 3 with their places, in the paper's order.
+-- 01, "Refusal numbers", reader, numbers 1 to 3 with their places, in the paper's order; 02, CR 4, their lengths: "1 for number 2 and for a
+-- byte after `=`, 0 for number 1 and for a missing `=`".
 -- Believed.
 use mathlib.Core.List.{List}
 use Prim.Native.Nat.{ℕ, _+_}
@@ -21,11 +22,11 @@ equalsAt b = indexOf equals b
 abbrev pub afterAt : List ℕ → ℕ
 afterAt b = indexFrom solid (equalsAt b + 1) b
 
--- number 0 with the place of the `=` where the words can be read, else the number and the place of the refusal
+-- number 0 with the place of the `=` where the words can be read, else number, place and length of the refusal
 unfoldable pub checkOf : List ℕ → Checked
 checkOf b =
-    pick (either (eqb (length b) 0) (ltb 2048 (length b))) (record { number = 1; place = 0 })
-    (pick (ltb (barredAt b) (length b)) (record { number = 2; place = barredAt b })
-    (pick (eqb (equalsAt b) (length b)) (record { number = 3; place = length b })
-    (pick (ltb (afterAt b) (length b)) (record { number = 3; place = afterAt b })
-    (record { number = 0; place = equalsAt b }))))
+    pick (either (eqb (length b) 0) (ltb 2048 (length b))) (record { number = 1; place = 0; length = 0 })
+    (pick (ltb (barredAt b) (length b)) (record { number = 2; place = barredAt b; length = 1 })
+    (pick (eqb (equalsAt b) (length b)) (record { number = 3; place = length b; length = 0 })
+    (pick (ltb (afterAt b) (length b)) (record { number = 3; place = afterAt b; length = 1 })
+    (record { number = 0; place = equalsAt b; length = 0 }))))
