@@ -2,8 +2,6 @@
 -- word they begin none; the number is that of the greatest part that may come next. And the converse.
 use mathlib.Core.Bool.{true}
 use mathlib.Core.List.{List, [], _∷_, _++_, append-nil, map-append}
-use mathlib.Core.Logic.{_↔_}
-use mathlib.Core.Logic._⊎_.{inl, inr}
 use mathlib.Core.Path.{_≡_, refl, ap, sym, subst, _∙_}
 use Prim.Native.Nat.{ℕ, _≤_}
 use native.Mathlib.Omega.{arith}
@@ -11,7 +9,7 @@ use lib.ListN.{length, length-map}
 use Rattle.words.specs.Words.{Word}
 use Rattle.message.specs.Records.{good}
 use Rattle.message.specs.declared.Record.{Record}
-use Rattle.grammar.specs.Judged.{messageWords, bytesOf, Whole, Begins, ComesNext, JudgedAs, Numbered, RefusedAt}
+use Rattle.grammar.specs.Judged.{messageWords, bytesOf, Begins, ComesNext, JudgedAs, RefusedAt}
 use Rattle.grammar.specs.Numbers.{numberOf}
 use Rattle.grammar.specs.Parts.{Marked, marked, messageParts}
 use Rattle.grammar.specs.Runs.{advance, walk, run}
@@ -24,7 +22,7 @@ use Rattle.grammar.proofs.Invariant.{Ok, mark}
 use Rattle.grammar.proofs.Marks.{unmarked, message-words, marksOf, markAt, marks-words, marks-append, start, start-kept, kept-ok, accepted-good, accepted-parts, accepted-words}
 use Rattle.grammar.proofs.Moves.{Fine, Next, walk-append}
 use Rattle.grammar.proofs.NumberLaws.{mark-most}
-use Rattle.grammar.proofs.RunLaws.{Alive, Breaks, moveNumber, walk-dead, dead-done, dead-not, done-not-goes, run-breaks, breaks-run}
+use Rattle.grammar.proofs.RunLaws.{Alive, Breaks, walk-dead, dead-done, dead-not, breaks-run}
 use Rattle.grammar.proofs.RunLaws.Alive.{going, over}
 
 -- two lists parted at one length have the same rest
@@ -141,30 +139,23 @@ module _
           rw (ap (λ (m : Marked). m .number) there) (mark-most s (c .word));
     }
 
-    numbered-by : (ws : List (List ℕ)) (m : Move) → walk start ws ≡ m → Alive m → Numbered ws (moveNumber m)
-    numbered-by ws (goes s) e a = inl (judged ws s e)
-    numbered-by ws (done r) e a = inr (record { message = r; isGood = accepted-good sound ws r e; words = accepted-words sound ws r e }, refl)
-
-    -- Theorems c and d: a run is refused at the first word that, with those before it, begins no accepted message, by the number of the part
+    -- Theorems c and d: a run breaks off at the first word that, with those before it, begins no accepted message, by the number of the part
     -- that the word is judged as.
-    pub refused-there : (ws : List Word) (n p : ℕ) → run atDesignator ws ≡ refused n p → (long : ℕ) × RefusedAt ws n p long
-    refused-there ws n p e =
-        let b : Breaks atDesignator ws n p = run-breaks atDesignator ws n p e in
-        (length (b .word .bytes), record {
+    pub breaks-refused : (ws : List Word) (n p : ℕ) (b : Breaks atDesignator ws n p) → RefusedAt ws n p (length (b .word .bytes))
+    breaks-refused ws n p b =
+        let seen : List (List ℕ) = bytesOf (b .before) in
+        let dies : advance (walk start seen) (b .word .bytes) ≡ dead = rw (b .walked) (b .dies) in
+        record {
           before = b .before;
           word = b .word;
           rest = b .rest;
           split = b .split;
           there = b .there;
           as-long = refl;
-          begins = alive-begins (bytesOf (b .before)) (walk start (bytesOf (b .before))) refl (b .alive);
-          ends = killed (bytesOf (b .before)) (b .word .bytes) (b .dies);
-          numbered = subst (λ (k : ℕ). Numbered (bytesOf (b .before)) k) (sym (b .numbered)) (numbered-by (bytesOf (b .before)) (walk start (bytesOf (b .before))) refl (b .alive));
-        })
-
-    -- a whole message's walk has ended, and nothing comes after it
-    pub whole-done : (ws : List (List ℕ)) (c : Whole ws) → walk start ws ≡ done (c .message)
-    whole-done ws c = ap (walk start) (c .words) ∙ forth (c .message) (c .isGood)
+          begins = alive-begins seen (goes (b .state)) (b .walked) going;
+          ends = killed seen (b .word .bytes) dies;
+          judged = subst (JudgedAs seen) (sym (b .numbered)) (judged seen (b .state) (b .walked));
+        }
 
     -- the words after which a word comes are in a state
     pub comes-going : (ws : List (List ℕ)) (n : ℕ) → ComesNext ws n → (r : Record) → walk start ws ≡ done r → ⊥
@@ -173,24 +164,27 @@ module _
         let on : walk (walk start ws) (c .word ∷ unmarked (c .rest)) ≡ done (c .message) = comes-rest ws n c .walked in
         dead-done (c .message) (sym (rw e at on) ∙ walk-dead (unmarked (c .rest)))
 
-    pub numbers-one : (ws : List (List ℕ)) (n : ℕ) (m : Move) → walk start ws ≡ m → Alive m → Numbered ws n → n ≡ moveNumber m
-    numbers-one ws n (goes s) e a (inl j) =
+    pub numbers-one : (ws : List (List ℕ)) (n : ℕ) (s : State) → walk start ws ≡ goes s → JudgedAs ws n → n ≡ numberOf s
+    numbers-one ws n s e j =
         let k : JudgedAs ws (numberOf s) = judged ws s e in
         let up : n ≤ numberOf s = k .greatest n (j .comes) in
         let down : numberOf s ≤ n = j .greatest (numberOf s) (k .comes) in
         omega arith
-    numbers-one ws n (goes s) e a (inr w) = absurd (done-not-goes (sym e ∙ whole-done ws (w .0)))
-    numbers-one ws n (done r) e a (inl j) = absurd (comes-going ws n (j .comes) r e)
-    numbers-one ws n (done r) e a (inr w) = w .1
+
+    -- a claim about the words before a refused one is a claim about a state
+    pub before-refused : {A : Type 0} (ws : List Word) (n p long : ℕ) (r : RefusedAt ws n p long)
+        → ((s : State) → walk start (bytesOf (r .before)) ≡ goes s → A) → A
+    before-refused {A} ws n p long r claim = from (walk start (bytesOf (r .before))) refl
+      where
+        from : (m : Move) → walk start (bytesOf (r .before)) ≡ m → A
+        from (goes s) e = claim s e
+        from (done q) e = absurd (comes-going (bytesOf (r .before)) n (r .judged .comes) q e)
+        from dead e = absurd (dead-not dead refl (begun-alive (bytesOf (r .before)) dead e (r .begins)))
 
     -- the converse: wherever a word is the first such, the run is refused there by that number
     pub there-refused : (ws : List Word) (n p long : ℕ) → RefusedAt ws n p long → run atDesignator ws ≡ refused n p
-    there-refused ws n p long r =
-        let before : List (List ℕ) = bytesOf (r .before) in
-        let alive : Alive (walk start before) = begun-alive before (walk start before) refl (r .begins) in
-        let dies : advance (walk start before) (r .word .bytes) ≡ dead = kills before (r .word .bytes) (advance (walk start before) (r .word .bytes)) refl (r .ends) in
-        let number : n ≡ moveNumber (walk start before) = numbers-one before n (walk start before) refl alive (r .numbered) in
-        rw (r .split, number, ← (r .there)) (breaks-run atDesignator (r .before) (r .word) (r .rest) alive dies)
-
-    pub refused-exactly : (ws : List Word) (n p : ℕ) → (run atDesignator ws ≡ refused n p) ↔ ((long : ℕ) × RefusedAt ws n p long)
-    refused-exactly ws n p = (refused-there ws n p, λ r. there-refused ws n p (r .0) (r .1))
+    there-refused ws n p long r = before-refused ws n p long r
+        (λ s e.
+        let seen : List (List ℕ) = bytesOf (r .before) in
+        let dies : advance (walk start seen) (r .word .bytes) ≡ dead = kills seen (r .word .bytes) (advance (walk start seen) (r .word .bytes)) refl (r .ends) in
+        rw (r .split, numbers-one seen n s e (r .judged), ← (r .there)) (breaks-run atDesignator s (r .before) (r .word) (r .rest) e (rw e at dies)))

@@ -34,7 +34,6 @@ use Rattle.grammar.proofs.Moves.Fine.{leads, ends, dies}
 use Rattle.grammar.proofs.NumberLaws.{Optional, part-taken}
 use Rattle.grammar.proofs.NumberLaws.Optional.{longer-test, freezing-rain, timed, second-bound}
 use Rattle.grammar.proofs.RunLaws.{walk-dead, dead-done, done-not-goes}
-use Rattle.grammar.proofs.RunLaws.Alive.{going}
 
 -- a word of that part is among these
 abbrev pub Has : ℕ → List Marked → Type 0
@@ -138,7 +137,7 @@ module _ (sound : (s : State) (w : List ℕ) → Ok s → Fine s w (step s w)) w
         where
           from : (m : Move) → walk start ws ≡ m → Rest m r left → Has part left
           from (goes s) e rest =
-              let number : part ≡ numberOf s = numbers-one sound next forth ws part (goes s) e going (inl j) in
+              let number : part ≡ numberOf s = numbers-one sound next forth ws part s e j in
               let has : Has part (marksOf (goes s) (unmarked left)) = rw number (number-required s (reached sound next forth ws s e) .has (unmarked left) r (rest .walked)) in
               subst (Has part) (sym (rest .marks)) has
           from (done q) e rest = absurd (comes-going sound next forth ws part (j .comes) q e)

@@ -48,20 +48,20 @@ use Rattle.grammar.proofs.RunLaws.{refused-number, accepted-not, unfini
 -- A refusal's number is not 0.
 
 follow-number : (m : Move) (s : State) (place : ℕ) (ws : List Word) (n p : ℕ)
-    → ((next : State) → run next ws ≡ refused n p → 3 ≤ n)
+    → ((next : State) → run next ws ≡ refused n p → 4 ≤ n)
     → follow m (numberOf s) place ws (λ (next : State). run next ws) ≡ refused n p
-    → 3 ≤ n
+    → 4 ≤ n
 follow-number (goes next) s place ws n p later e = later next e
 follow-number (done r) s place [] n p later e = absurd (accepted-not e)
-follow-number (done r) s place (w ∷ ws) n p later e = omega (arith, refused-number e)
+follow-number (done r) s place (w ∷ ws) n p later e = omega (arith, number-range s .low, refused-number e)
 follow-number dead s place ws n p later e = omega (arith, number-range s .low, refused-number e)
 
-pub run-number : (s : State) (ws : List Word) (n p : ℕ) → run s ws ≡ refused n p → 3 ≤ n
+pub run-number : (s : State) (ws : List Word) (n p : ℕ) → run s ws ≡ refused n p → 4 ≤ n
 unfolding run
 run-number s [] n p e = absurd (unfinished-not e)
 run-number s (w ∷ ws) n p e = follow-number (step s (w .bytes)) s (w .place) ws n p (λ next h. run-number next ws n p h) e
 
-reply-accepted : (t : List ℕ) (ran : Ran) (r : Record) → ((n p : ℕ) → ran ≡ refused n p → 3 ≤ n) → replyOf t ran ≡ acceptance r → ran ≡ accepted r
+reply-accepted : (t : List ℕ) (ran : Ran) (r : Record) → ((n p : ℕ) → ran ≡ refused n p → 4 ≤ n) → replyOf t ran ≡ acceptance r → ran ≡ accepted r
 reply-accepted t (accepted m) r h e = ap (λ (x : Reply). accepted (x .message)) e
 reply-accepted t (refused n p) r h e = let z : n ≡ 0 = ap (λ (x : Reply). x .number) e in absurd (omega (arith, h n p refl))
 reply-accepted t unfinished r h e = let z : _≡_ {A = ℕ} 3 0 = ap (λ (x : Reply). x .number) e in absurd (omega arith)

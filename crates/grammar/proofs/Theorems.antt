@@ -7,7 +7,10 @@ use mathlib.Core.Path.{_≡_, ap, sym, _∙_}
 use Prim.Native.Nat.{ℕ, suc, _≤_}
 use lib.ListN.{length, take}
 use borrow.Author.Tests.{le-ltb}
-use Rattle.words.specs.Words.{Word, equalsSign}
+use Rattle.lists.specs.Lists.{allOf}
+use Rattle.words.specs.Bytes.{allowed}
+use Rattle.words.specs.Words.{Word, equalsSign, wordsAt, lengthAt}
+use Rattle.words.proofs.Words.{unequal}
 use Rattle.message.specs.Records.{good}
 use Rattle.message.specs.Words.{wordsOf, textOf}
 use Rattle.message.specs.declared.Record.{Record}
@@ -17,21 +20,20 @@ use Rattle.grammar.specs.Bulletins.{acceptance}
 use Rattle.grammar.specs.Parts.{Marked, marked, messageParts}
 use Rattle.grammar.specs.Reads.{readOf}
 use Rattle.grammar.specs.Replies.{Replied}
-use Rattle.grammar.specs.Runs.{walk, run}
+use Rattle.grammar.specs.Runs.{walk, run, runAt}
 use Rattle.grammar.specs.Runs.Ran.{accepted, refused}
 use Rattle.grammar.specs.States.Move.{goes, done}
 use Rattle.grammar.specs.States.State.{atDesignator}
 use Rattle.grammar.specs.Writes.{writeOf}
 use Rattle.pens.specs.Outcomes.{written, unwritten}
 use Rattle.grammar.specs.declared.Reply.{Reply}
-use Rattle.grammar.proofs.FirstDead.{refused-exactly}
 use Rattle.grammar.proofs.Forth.{good-accepted}
 use Rattle.grammar.proofs.Lengths.{text-fits}
 use Rattle.grammar.proofs.Marks.{accepted-good, accepted-words}
 use Rattle.grammar.proofs.Opening.{plain-heading, plain-line}
 use Rattle.grammar.proofs.PartLaws.{in-order}
 use Rattle.grammar.proofs.Plain.{plain-body}
-use Rattle.grammar.proofs.Replies.{text-accepted, text-accepts, replied, reply-only}
+use Rattle.grammar.proofs.Replies.{text-accepted, text-accepts, refused-exactly, replied, reply-only}
 use Rattle.grammar.proofs.Required.{judged-required}
 use Rattle.grammar.proofs.RunLaws.{done-same, run-walks, walk-runs}
 use Rattle.grammar.proofs.Sections.{sound, next}
@@ -63,10 +65,11 @@ pub run-accepts-exactly : (ws : List Word) (r : Record) → (run atDesignator ws
 run-accepts-exactly ws r =
     (λ e. theorem-a (bytesOf ws) r (run-walks atDesignator ws r e), λ h. walk-runs atDesignator ws r (accepted-exactly (bytesOf ws) r .1 h))
 
--- c and d. A run is refused by a number at a place exactly where `RefusedAt` says so: the words before begin an accepted message, with this word
--- they begin none, and the number is that of the part that the word is judged as. The length is that word's.
-pub theorem-c-d : (ws : List Word) (number place : ℕ) → (run atDesignator ws ≡ refused number place) ↔ ((long : ℕ) × RefusedAt ws number place long)
-theorem-c-d ws n p = refused-exactly sound next good-accepted ws n p
+-- c and d. The run over a text is refused by a number at a place exactly where `RefusedAt` says so: the words before begin an accepted message,
+-- with this word they begin none, and the number is that of the part that the word is judged as. Its length is that found at the place.
+pub theorem-c-d : (t : List ℕ) → allOf allowed t ≡ true → allOf unequal t ≡ true → (number place : ℕ)
+    → (runAt atDesignator t 0 ≡ refused number place) ↔ RefusedAt (wordsAt t 0) number place (lengthAt t place)
+theorem-c-d t a f n p = refused-exactly sound next good-accepted t a f n p
 
 -- d. The number is 12 exactly where the words before also make an accepted message with the `=`.
 pub theorem-d-twelve : (ws : List Word) (number place long : ℕ) (r : RefusedAt ws number place long) → (number ≡ 12) ↔ Whole (bytesOf (r .before) ++ (equalsSign ∷ []))

@@ -2,7 +2,6 @@
 use mathlib.Core.Bool.{true}
 use mathlib.Core.List.{List, [], _∷_, _++_}
 use mathlib.Core.Logic.{_↔_}
-use mathlib.Core.Logic._⊎_.{inl, inr}
 use mathlib.Core.Path.{_≡_, refl, ap, sym, subst, _∙_}
 use Prim.Native.Nat.{ℕ, _≤_}
 use native.Mathlib.Omega.{arith}
@@ -10,7 +9,7 @@ use Rattle.words.specs.Words.{Word, equalsSign}
 use Rattle.message.specs.Records.{good}
 use Rattle.message.specs.Words.{wordsOf}
 use Rattle.message.specs.declared.Record.{Record}
-use Rattle.grammar.specs.Judged.{messageWords, bytesOf, Whole, ComesNext, Numbered, RefusedAt}
+use Rattle.grammar.specs.Judged.{messageWords, bytesOf, Whole, ComesNext, RefusedAt}
 use Rattle.grammar.specs.Numbers.{numberOf}
 use Rattle.grammar.specs.Parts.{marked, partsOf}
 use Rattle.grammar.specs.Runs.{walk}
@@ -23,9 +22,7 @@ use Rattle.grammar.proofs.Marks.{unmarked, parts-words, start}
 use Rattle.grammar.proofs.Moves.{Fine, Next, walk-append}
 use Rattle.grammar.proofs.NumberLaws.{number-range}
 use Rattle.grammar.proofs.PartLaws.{other-last, words-parts}
-use Rattle.grammar.proofs.RunLaws.{Alive, dead-done}
-use Rattle.grammar.proofs.RunLaws.Alive.{going}
-use Rattle.grammar.proofs.FirstDead.{begun-alive, numbers-one, whole-done}
+use Rattle.grammar.proofs.FirstDead.{before-refused, numbers-one}
 
 -- what is in front of a last word
 front-same : (xs ys : List (List ℕ)) (x y : List ℕ) → xs ++ (x ∷ []) ≡ ys ++ (y ∷ []) → xs ≡ ys
@@ -64,32 +61,17 @@ module _
     (next : (s : State) → Ok s → Next s)
     (forth : (r : Record) → good r ≡ true → walk (goes atDesignator) (messageWords r) ≡ done r)
   where
-    twelve-to : (ws : List (List ℕ)) (n : ℕ) → Numbered ws n → n ≡ 12 → Whole (ws ++ (equalsSign ∷ []))
-    twelve-to ws n (inl j) e = twelve-whole ws (subst (λ (k : ℕ). ComesNext ws k) e (j .comes))
-    twelve-to ws n (inr w) e = absurd (let three : n ≡ 3 = w .1 in omega arith)
-
-    -- a walk at its end takes no other `=`
-    one-end : (ws : List (List ℕ)) (r : Record) → walk start ws ≡ done r → Whole (ws ++ (equalsSign ∷ [])) → ⊥
-    unfolding walk
-    one-end ws r e w =
-        let ended : walk start (ws ++ (equalsSign ∷ [])) ≡ done (w .message) = whole-done sound next forth (ws ++ (equalsSign ∷ [])) w in
-        dead-done (w .message) (sym ended ∙ (walk-append start ws (equalsSign ∷ []) ∙ rw e))
-
-    twelve-from : (ws : List (List ℕ)) (n : ℕ) (m : Move) → walk start ws ≡ m → Alive m → Numbered ws n → Whole (ws ++ (equalsSign ∷ [])) → n ≡ 12
-    twelve-from ws n (goes s) e a (inl j) w =
-        let same : n ≡ numberOf s = numbers-one sound next forth ws n (goes s) e going (inl j) in
-        let up : 12 ≤ n = j .greatest 12 (whole-twelve ws w) in
-        let down : numberOf s ≤ 12 = number-range s .high in
-        omega arith
-    twelve-from ws n (goes s) e a (inr x) w =
-        let same : n ≡ numberOf s = numbers-one sound next forth ws n (goes s) e going (inr x) in
-        let three : n ≡ 3 = x .1 in
-        let low : 4 ≤ numberOf s = number-range s .low in
-        absurd (omega arith)
-    twelve-from ws n (done r) e a x w = absurd (one-end ws r e w)
-
     -- 12 "goes before 4 to 11": exactly where the `=` would also be accepted
     pub twelve-exactly : (ws : List Word) (n p long : ℕ) (r : RefusedAt ws n p long) → (n ≡ 12) ↔ Whole (bytesOf (r .before) ++ (equalsSign ∷ []))
     twelve-exactly ws n p long r =
-        let before : List (List ℕ) = bytesOf (r .before) in
-        (twelve-to before n (r .numbered), twelve-from before n (walk start before) refl (begun-alive sound next forth before (walk start before) refl (r .begins)) (r .numbered))
+        let seen : List (List ℕ) = bytesOf (r .before) in
+        (
+          λ e. twelve-whole seen (subst (ComesNext seen) e (r .judged .comes)),
+          λ w.
+              before-refused sound next forth ws n p long r
+              (λ s e.
+              let same : n ≡ numberOf s = numbers-one sound next forth seen n s e (r .judged) in
+              let up : 12 ≤ n = r .judged .greatest 12 (whole-twelve seen w) in
+              let down : numberOf s ≤ 12 = number-range s .high in
+              omega arith),
+        )

@@ -3,7 +3,6 @@
 -- Believed.
 use mathlib.Core.Bool.{true}
 use mathlib.Core.List.{List, [], _∷_, _++_, map}
-use mathlib.Core.Logic.{_⊎_}
 use mathlib.Core.Path.{_≡_}
 use Prim.Native.Nat.{ℕ, _≤_}
 use lib.ListN.{length}
@@ -49,10 +48,6 @@ pub record JudgedAs (ws : List (List ℕ)) (part : ℕ) : Type 0 where
   pub comes : ComesNext ws part
   pub greatest : (other : ℕ) → ComesNext ws other → other ≤ part
 
--- the number of a word refused after these words: that of its part; 3 is for "something after" the `=`
-abbrev pub Numbered : List (List ℕ) → ℕ → Type 0
-Numbered ws number = JudgedAs ws number ⊎ (Whole ws × (number ≡ 3))
-
 -- "refused by a number and the place our paper fixes for it": the word at that place is the first that, with those before it, begins no
 -- accepted message; 02, CR 4: "a length: that of the word for 4 to 12, 1 for `=`", which is a word of one byte
 pub record RefusedAt (ws : List Word) (number place long : ℕ) : Type 0 where
@@ -64,4 +59,4 @@ pub record RefusedAt (ws : List Word) (number place long : ℕ) : Type 0 where
   pub as-long : length (word .bytes) ≡ long
   pub begins : Begins (bytesOf before)
   pub ends : Begins (bytesOf before ++ (word .bytes ∷ [])) → ⊥
-  pub numbered : Numbered (bytesOf before) number
+  pub judged : JudgedAs (bytesOf before) number

@@ -26,15 +26,15 @@ pub data Ran : Type 0 where
   refused : ℕ → ℕ → Ran
   unfinished : Ran
 
--- "something after it": the words behind the `=`
-abbrev pub finished : Record → List Word → Ran
-finished r [] = accepted r
-finished r (w ∷ ws) = refused 3 (w .place)
+-- "that `=` is the last word": one at place p with words behind it is refused as any other word there is
+abbrev pub finished : Record → ℕ → ℕ → List Word → Ran
+finished r number p [] = accepted r
+finished r number p (w ∷ ws) = refused number p
 
 -- the move that the word at place p made, with the number of that word should it be refused, the words after it, and how the run goes on
 abbrev pub follow : Move → ℕ → ℕ → List Word → (State → Ran) → Ran
 follow (goes s) number p ws on = on s
-follow (done r) number p ws on = finished r ws
+follow (done r) number p ws on = finished r number p ws
 follow dead number p ws on = refused number p
 
 -- "For 4 to 12 the word is the first that, with those before it, begins no accepted message": the place is the word's
