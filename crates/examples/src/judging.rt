@@ -30,22 +30,34 @@ pub(crate) fn judge(tally: Tally, line: &[u8]) -> Tally {
         return tally;
     }
     let c = find(line, b + 1, b' ');
+    if c == line.len() {
+        return tally;
+    }
+    let d = find(line, c + 1, b' ');
     compare(
         tally,
         &line[0..a],
         &line[a + 1..b],
         &line[b + 1..c],
-        &line[c..],
+        &line[c + 1..d],
+        &line[d..],
     )
 }
 
 // Reads the text and prints its name, the reply, and what is wrong where something is.
-fn compare(tally: Tally, name: &[u8], number: &[u8], place: &[u8], texts: &[u8]) -> Tally {
+fn compare(
+    tally: Tally,
+    name: &[u8],
+    number: &[u8],
+    place: &[u8],
+    length: &[u8],
+    texts: &[u8],
+) -> Tally {
     let bar = find(texts, 0, b'|');
     let reply = reply_to(&texts[0..bar]);
     io::write_all(1, name);
     tell(reply);
-    if is_right(reply, number, place, texts) {
+    if is_right(reply, number, place, length, texts) {
         io::write_all(1, b" ok\n");
         return Tally {
             right: std::num::wrapping_add_u64(tally.right, 1),
@@ -65,8 +77,8 @@ fn reply_to(line: &[u8]) -> Reply {
 }
 
 // Is this the expected reply, and, where it refuses nothing, the record's text the expected one?
-fn is_right(reply: Reply, number: &[u8], place: &[u8], texts: &[u8]) -> bool {
-    if !is_reply(reply, number, place) {
+fn is_right(reply: Reply, number: &[u8], place: &[u8], length: &[u8], texts: &[u8]) -> bool {
+    if !is_reply(reply, number, place, length) {
         return false;
     }
     if reply.number == 0 {

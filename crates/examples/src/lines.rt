@@ -1,4 +1,4 @@
-// A line of the table: name, number, place and text, parted by single spaces. A line that begins with `#` and an empty line say nothing.
+// A line of the table: name, number, place, length and text, parted by single spaces. A line that begins with `#` and an empty line say nothing.
 ghost use Prim.Native.Nat.{_≤_};
 ghost use lib.ListN.{length};
 

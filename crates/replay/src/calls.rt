@@ -10,7 +10,7 @@ use reader::read;
 pub(crate) fn post_text(board: Board, clock: u32, bulletin: &[u8]) -> Board {
     let reply = read(bulletin);
     if reply.number != 0 {
-        tell_refused(reply.number as u64, reply.place as u64);
+        tell_refused(reply.number as u64, reply.place as u64, reply.length as u64);
         return board;
     }
     let message = reply.message;

@@ -8,11 +8,12 @@ pub(crate) fn tell_malformed() {
     io::write_all(1, b"?\n");
 }
 
-pub(crate) fn tell_refused(number: u64, place: u64) {
-    let mut line = [0u8; 64];
+pub(crate) fn tell_refused(number: u64, place: u64, length: u64) {
+    let mut line = [0u8; 80];
     let a = put_answer(&mut line, b'r', number);
     let b = put_number(&mut line, a, place);
-    print(&mut line, b);
+    let c = put_number(&mut line, b, length);
+    print(&mut line, c);
 }
 
 pub(crate) fn tell_posted(number: u64) {

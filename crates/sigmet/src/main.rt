@@ -1,5 +1,5 @@
-// The program: one bulletin on standard input, at most 2,049 bytes of it. It prints the refusal number, a space, the place and LF; on 0 also
-// the canonical text and LF.
+// The program: one bulletin on standard input, at most 2,049 bytes of it. It prints the refusal number, a space, the place, a space, the length
+// and LF; on 0 also the canonical text and LF.
 use message::Record;
 use reader::read;
 use writer::write;
@@ -12,6 +12,8 @@ fn main() {
     io::print_decimal(1, reply.number as u64);
     io::write_all(1, b" ");
     io::print_decimal(1, reply.place as u64);
+    io::write_all(1, b" ");
+    io::print_decimal(1, reply.length as u64);
     io::write_all(1, b"\n");
     if reply.number == 0 {
         print_text(reply.message);

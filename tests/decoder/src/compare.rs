@@ -18,7 +18,7 @@ const MOST: u64 = 20;
 
 /// What the program prints for a reply, canonical text included.
 pub fn printed(reply: &Reply) -> Vec<u8> {
-    let mut out = format!("{} {}\n", reply.number, reply.place).into_bytes();
+    let mut out = format!("{}\n", reply.numbers()).into_bytes();
     if reply.number == 0 {
         out.extend(&reply.canonical);
         out.push(b'\n');

@@ -7,26 +7,35 @@ use crate::words::{cut, Word};
 pub struct Reply {
     pub number: u8,
     pub place: usize,
+    /// Of what is refused; that of the word for 4 to 12, the `=` being a word.
+    pub length: usize,
     /// The canonical text; empty where the bulletin is refused.
     pub canonical: Vec<u8>,
 }
 
-fn refused(number: u8, place: usize) -> Reply {
-    Reply { number, place, canonical: Vec::new() }
+impl Reply {
+    /// Number, place and length, as the programs print them.
+    pub fn numbers(&self) -> String {
+        format!("{} {} {}", self.number, self.place, self.length)
+    }
+}
+
+fn refused(number: u8, place: usize, length: usize) -> Reply {
+    Reply { number, place, length, canonical: Vec::new() }
 }
 
 pub fn decode(bulletin: &[u8]) -> Reply {
     let words = match cut(bulletin) {
         Ok(words) => words,
-        Err((number, place)) => return refused(number, place),
+        Err((number, place, length)) => return refused(number, place, length),
     };
     let mut parser = Parser::new();
     for word in &words {
         if let Err(number) = parser.take(word.text) {
-            return refused(number, word.place);
+            return refused(number, word.place, word.text.len());
         }
     }
-    Reply { number: 0, place: 0, canonical: canonical(&words, parser.corrected) }
+    Reply { number: 0, place: 0, length: 0, canonical: canonical(&words, parser.corrected) }
 }
 
 /// All parts are kept as written, so only the blanks change.

@@ -47,7 +47,7 @@ fn carried_out(history: &mut History, command: &Command) -> String {
         Command::Post { clock, bulletin } => {
             let reply = decode(bulletin);
             if reply.number > 0 {
-                return format!("r {} {}\n", reply.number, reply.place);
+                return format!("r {}\n", reply.numbers());
             }
             format!("p {}\n", history.post(clock, &Message::of(&reply.canonical)))
         }

@@ -40,7 +40,7 @@ fn texts(bulletin: &[u8], reply: &Reply) -> String {
 pub fn row(seed: u64, index: u64) -> String {
     let (class, text) = bulletin(seed, index);
     let reply = decode(&text);
-    format!("{}-{index} {} {} {}\n", CLASSES[class], reply.number, reply.place, texts(&text, &reply))
+    format!("{}-{index} {} {}\n", CLASSES[class], reply.numbers(), texts(&text, &reply))
 }
 
 /// Writes the tables FOLDER/0, FOLDER/1, …
@@ -82,12 +82,12 @@ fn unescaped(mut text: &str) -> Vec<u8> {
 
 /// What `examples` prints for a row: its reply here, and whether that and the canonical text are the expected ones.
 fn judged(row: &str) -> String {
-    let parts: Vec<&str> = row.splitn(4, ' ').collect();
-    let texts = parts.get(3).copied().unwrap_or("");
+    let parts: Vec<&str> = row.splitn(5, ' ').collect();
+    let texts = parts.get(4).copied().unwrap_or("");
     let (bulletin, canonical) = texts.split_once('|').unwrap_or((texts, texts));
     let reply = decode(&unescaped(bulletin));
-    let given = format!("{} {}", reply.number, reply.place);
-    let same = given == parts[1..3].join(" ") && (reply.number != 0 || reply.canonical == unescaped(canonical));
+    let given = reply.numbers();
+    let same = given == parts[1..4].join(" ") && (reply.number != 0 || reply.canonical == unescaped(canonical));
     format!("{}: {given} {}\n", parts[0], if same { "ok" } else { "WRONG" })
 }
 

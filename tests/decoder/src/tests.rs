@@ -10,23 +10,24 @@ use crate::words::cut;
 const SAMPLE: &str = "WSZZ31 QAAA 180830\r\nQBBB SIGMET 1 VALID 180830/181230 QAAA-\r\n\
     QBBB NORTH SOUND FIR SEV ICE FCST E OF E114 SFC/FL100 MOV E 20KT WKN=";
 
-fn verdict(text: &str) -> (u8, usize) {
-    let reply = decode(text.as_bytes());
-    (reply.number, reply.place)
+/// Number, place and length.
+fn verdict(text: impl AsRef<[u8]>) -> (u8, usize, usize) {
+    let reply = decode(text.as_ref());
+    (reply.number, reply.place, reply.length)
 }
 
 #[test]
 fn the_paper_s_cases() {
     assert_eq!(SAMPLE.len(), 130);
-    assert_eq!(verdict(SAMPLE), (0, 0));
+    assert_eq!(verdict(SAMPLE), (0, 0, 0));
     assert_eq!(decode(SAMPLE.as_bytes()).canonical, SAMPLE.as_bytes());
-    assert_eq!(verdict(&SAMPLE.replace("E114", "E180")), (0, 0));
-    assert_eq!(verdict(&SAMPLE.replace("E114", "E181")), (9, 100));
-    assert_eq!(verdict(&SAMPLE.replace("WKN", "FCST")), (11, 126));
-    assert_eq!(verdict(&SAMPLE.replace("WKN", "WKN NC")), (12, 130));
-    assert_eq!(verdict(&SAMPLE.replace('=', "")), (3, 129));
-    assert_eq!(verdict(&SAMPLE.replace("E OF E114", "N OF N9001")), (9, 100));
-    assert_eq!(verdict(&SAMPLE.replace("QAAA-", "QAAA")), (5, 54));
+    assert_eq!(verdict(SAMPLE.replace("E114", "E180")), (0, 0, 0));
+    assert_eq!(verdict(SAMPLE.replace("E114", "E181")), (9, 100, 4));
+    assert_eq!(verdict(SAMPLE.replace("WKN", "FCST")), (11, 126, 4));
+    assert_eq!(verdict(SAMPLE.replace("WKN", "WKN NC")), (12, 130, 2));
+    assert_eq!(verdict(SAMPLE.replace('=', "")), (3, 129, 0));
+    assert_eq!(verdict(SAMPLE.replace("E OF E114", "N OF N9001")), (9, 100, 5));
+    assert_eq!(verdict(SAMPLE.replace("QAAA-", "QAAA")), (5, 54, 4));
 }
 
 #[test]
@@ -36,66 +37,91 @@ fn values_of_the_paper() {
     assert_eq!((longitude("E180"), longitude("W18000"), longitude("E181")), (Some(10_800), Some(-10_800), None));
 }
 
-/// Bodies after the first line; a `^` stands before the word refused.
+/// Bodies after the first line; the word refused stands between two `^`.
 #[rustfmt::skip]
 const BODIES: &[(&str, u8, &str)] = &[
-    ("WS", 6, "QBBB ^FIR TEST="), ("WS", 6, "QBBB ^="), ("WS", 6, "QBBB A ^B1 FIR TEST="), ("WS", 0, "QBBB A FIR/UIR TEST="),
+    ("WS", 6, "QBBB ^FIR^ TEST="), ("WS", 6, "QBBB ^=^"), ("WS", 6, "QBBB A ^B1^ FIR TEST="), ("WS", 0, "QBBB A FIR/UIR TEST="),
     ("WS", 0, "QBBB ABCDEFGHIJ ABCDEFGHIJ ABCDEFGHIJ ABCDEFGHIJ ABCD-F FIR TEST="),
-    ("WS", 6, "QBBB ABCDEFGHIJ ABCDEFGHIJ ABCDEFGHIJ ABCDEFGHIJ ^ABCDEFG FIR TEST="),
-    ("WS", 6, "QBBB ABCDEFGHIJ ABCDEFGHIJ ABCDEFGHIJ ABCDEFGHIJ ABCDE ^A FIR TEST="),
-    ("WS", 7, "QBBB A FIR ^FIR TEST="), ("WS", 12, "QBBB A FIR TEST ^PLEASE="), ("WS", 7, "QBBB A FIR TEST SIGMET ^="),
-    ("WV", 0, "QBBB A FIR TEST. THIS IS A TEST SIGMET, PLEASE DISREGARD="), ("WV", 7, "QBBB A FIR TEST. THIS IS A TEST ^SIGMET="),
-    ("WS", 12, "QBBB A FIR TEST SIGMET PLEASE DISREGARD ^TEST="),
-    ("WS", 0, "QBBB A FIR CNL SIGMET 2 010000/010400="), ("WS", 7, "QBBB A FIR CNL SIGMET 1 ^010000/010400="),
+    ("WS", 6, "QBBB ABCDEFGHIJ ABCDEFGHIJ ABCDEFGHIJ ABCDEFGHIJ ^ABCDEFG^ FIR TEST="),
+    ("WS", 6, "QBBB ABCDEFGHIJ ABCDEFGHIJ ABCDEFGHIJ ABCDEFGHIJ ABCDE ^A^ FIR TEST="),
+    ("WS", 7, "QBBB A FIR ^FIR^ TEST="), ("WS", 12, "QBBB A FIR TEST ^PLEASE^="), ("WS", 7, "QBBB A FIR TEST SIGMET ^=^"),
+    ("WV", 0, "QBBB A FIR TEST. THIS IS A TEST SIGMET, PLEASE DISREGARD="), ("WV", 7, "QBBB A FIR TEST. THIS IS A TEST ^SIGMET^="),
+    ("WS", 12, "QBBB A FIR TEST SIGMET PLEASE DISREGARD ^TEST^="),
+    ("WS", 0, "QBBB A FIR CNL SIGMET 2 010000/010400="), ("WS", 7, "QBBB A FIR CNL SIGMET 1 ^010000/010400^="),
     ("WS", 0, "QBBB A FIR CNL SIGMET 01 010000/010400="), ("WS", 0, "QBBB A FIR CNL SIGMET 1 010001/010400="),
-    ("WS", 7, "QBBB A FIR CNL SIGMET 2 ^010000/010401="), ("WS", 12, "QBBB A FIR CNL SIGMET 2 010000/010400 ^VA="),
-    ("WS", 7, "QBBB A FIR ^VA CLD OBS="), ("WV", 7, "QBBB A FIR ^SEV ICE OBS="), ("WS", 7, "QBBB A FIR ^="),
-    ("WS", 8, "QBBB A FIR SEV ICE ^(FZRB) OBS="), ("WS", 8, "QBBB A FIR SEV TURB ^(FZRA) OBS="), ("WS", 7, "QBBB A FIR OBSC ^="),
-    ("WS", 8, "QBBB A FIR SEV ICE OBS AT ^2400Z="), ("WS", 9, "QBBB A FIR SEV ICE OBS ^2300Z="), ("WS", 9, "QBBB A FIR SEV ICE OBS ^="),
-    ("WS", 10, "QBBB A FIR SEV ICE OBS N OF N10 ^OF="), ("WS", 9, "QBBB A FIR SEV ICE OBS N OF N10 AND ^N OF N20="),
-    ("WS", 10, "QBBB A FIR SEV ICE OBS E OF E010 ^AND N OF N20="), ("WS", 9, "QBBB A CTA SEV ICE OBS ENTIRE ^FIR="),
-    ("WS", 9, "QBBB A FIR/UIR SEV ICE OBS ENTIRE ^CTA="), ("WS", 0, "QBBB A CTA SEV ICE OBS ENTIRE CTA FL001 STNR NC="),
-    ("WS", 10, "QBBB A FIR SEV ICE OBS ENTIRE FIR ^FL000="), ("WS", 10, "QBBB A FIR SEV ICE OBS ENTIRE FIR TOP ^FL100/200="),
-    ("WS", 11, "QBBB A FIR SEV ICE OBS ENTIRE FIR TOP ABV FL100 ^="), ("WS", 11, "QBBB A FIR SEV ICE OBS ENTIRE FIR FL100 NC ^="),
-    ("WV", 11, "QBBB A FIR VA CLD OBS ENTIRE FIR FL100 ^NC FCST AT 0400Z ENTIRE FIR="),
+    ("WS", 7, "QBBB A FIR CNL SIGMET 2 ^010000/010401^="), ("WS", 12, "QBBB A FIR CNL SIGMET 2 010000/010400 ^VA^="),
+    ("WS", 7, "QBBB A FIR ^VA^ CLD OBS="), ("WV", 7, "QBBB A FIR ^SEV^ ICE OBS="), ("WS", 7, "QBBB A FIR ^=^"),
+    ("WS", 8, "QBBB A FIR SEV ICE ^(FZRB)^ OBS="), ("WS", 8, "QBBB A FIR SEV TURB ^(FZRA)^ OBS="), ("WS", 7, "QBBB A FIR OBSC ^=^"),
+    ("WS", 8, "QBBB A FIR SEV ICE OBS AT ^2400Z^="), ("WS", 9, "QBBB A FIR SEV ICE OBS ^2300Z^="), ("WS", 9, "QBBB A FIR SEV ICE OBS ^=^"),
+    ("WS", 10, "QBBB A FIR SEV ICE OBS N OF N10 ^OF^="), ("WS", 9, "QBBB A FIR SEV ICE OBS N OF N10 AND ^N^ OF N20="),
+    ("WS", 10, "QBBB A FIR SEV ICE OBS E OF E010 ^AND^ N OF N20="), ("WS", 9, "QBBB A CTA SEV ICE OBS ENTIRE ^FIR^="),
+    ("WS", 9, "QBBB A FIR/UIR SEV ICE OBS ENTIRE ^CTA^="), ("WS", 0, "QBBB A CTA SEV ICE OBS ENTIRE CTA FL001 STNR NC="),
+    ("WS", 10, "QBBB A FIR SEV ICE OBS ENTIRE FIR ^FL000^="), ("WS", 10, "QBBB A FIR SEV ICE OBS ENTIRE FIR TOP ^FL100/200^="),
+    ("WS", 11, "QBBB A FIR SEV ICE OBS ENTIRE FIR TOP ABV FL100 ^=^"), ("WS", 11, "QBBB A FIR SEV ICE OBS ENTIRE FIR FL100 NC ^=^"),
+    ("WV", 11, "QBBB A FIR VA CLD OBS ENTIRE FIR FL100 ^NC^ FCST AT 0400Z ENTIRE FIR="),
     ("WS", 0, "QBBB A FIR SEV ICE OBS ENTIRE FIR FL100 NC FCST AT 0400Z ENTIRE FIR="),
-    ("WS", 11, "QBBB A FIR SEV ICE OBS ENTIRE FIR FL100 NC FCST AT ^0000Z ENTIRE FIR="),
-    ("WS", 12, "QBBB A FIR SEV ICE OBS ENTIRE FIR FL100 NC FCST AT 0400Z N OF N10 ^E="),
-    ("WS", 11, "QBBB A FIR SEV ICE OBS ENTIRE FIR FL100 NC FCST AT 0400Z N OF N10 AND ^="),
-    ("WS", 12, "QBBB A FIR SEV ICE OBS ENTIRE FIR FL100 NC FCST AT 0400Z WI N00 E180 - N01 E180 - N02 E180 - S00 W180 ^-="),
-    ("WS", 12, "QBBB A FIR SEV ICE OBS ENTIRE FIR FL100 STNR NC ^FCST AT 0400Z="),
-    ("WS", 9, "QBBB A FIR SEV ICE OBS WI N00 E180 - S0000 ^W18000 - N01 E001="),
-    ("WS", 9, "QBBB A FIR SEV ICE OBS WI N00 E180 - N01 E001 - S0000 ^W18000 FL100="),
-    ("WS", 10, "QBBB A FIR SEV ICE OBS WI N00 E180 - N01 E001 - N02 E001 - S0000 W18000 ^- N01="),
-    ("WS", 9, "QBBB A FIR SEV ICE OBS WI N00 E180 - N01 E001 - N02 E001 - N03 E001 ^FL100="),
-    ("WS", 9, "QBBB A FIR SEV ICE OBS WI N00 E180 - N01 E001 - N02 E001 - N03 E001 - N00 E001 - N00 E002 - ^N01 E180="),
-    ("WS", 9, "QBBB A FIR SEV ICE OBS WI N00 E180 - N01 E001 - N02 E001 - N03 E001 - N00 E001 - N00 E002 - S00 ^W179="),
-    ("WS", 10, "QBBB A FIR SEV ICE OBS WI N00 E180 - N01 E001 - N02 E001 - N03 E001 - N00 E001 - N00 E002 - S00 W180 ^="),
-    ("WV", 7, "QBBB A FIR VA ERUPTION ^VA CLD="), ("WV", 7, "QBBB A FIR VA ERUPTION MT ^PSN N00 E000="),
-    ("WV", 8, "QBBB A FIR VA ERUPTION MT FIR CTA PSN N00 E000 VA CLD ^="), ("WV", 7, "QBBB A FIR VA ERUPTION PSN N00 ^VA CLD="),
-    ("WV", 8, "QBBB A FIR VA ERUPTION MT ABCDEFGHIJ ABCDEFGHIJ ABCDEFGH PSN N00 E000 VA CLD ^="),
-    ("WV", 7, "QBBB A FIR VA ERUPTION MT ABCDEFGHIJ ABCDEFGHIJ ^ABCDEFGHI PSN N00 E000 VA CLD="),
+    ("WS", 11, "QBBB A FIR SEV ICE OBS ENTIRE FIR FL100 NC FCST AT ^0000Z^ ENTIRE FIR="),
+    ("WS", 12, "QBBB A FIR SEV ICE OBS ENTIRE FIR FL100 NC FCST AT 0400Z N OF N10 ^E^="),
+    ("WS", 11, "QBBB A FIR SEV ICE OBS ENTIRE FIR FL100 NC FCST AT 0400Z N OF N10 AND ^=^"),
+    ("WS", 12, "QBBB A FIR SEV ICE OBS ENTIRE FIR FL100 NC FCST AT 0400Z WI N00 E180 - N01 E180 - N02 E180 - S00 W180 ^-^="),
+    ("WS", 12, "QBBB A FIR SEV ICE OBS ENTIRE FIR FL100 STNR NC ^FCST^ AT 0400Z="),
+    ("WS", 9, "QBBB A FIR SEV ICE OBS WI N00 E180 - S0000 ^W18000^ - N01 E001="),
+    ("WS", 9, "QBBB A FIR SEV ICE OBS WI N00 E180 - N01 E001 - S0000 ^W18000^ FL100="),
+    ("WS", 10, "QBBB A FIR SEV ICE OBS WI N00 E180 - N01 E001 - N02 E001 - S0000 W18000 ^-^ N01="),
+    ("WS", 9, "QBBB A FIR SEV ICE OBS WI N00 E180 - N01 E001 - N02 E001 - N03 E001 ^FL100^="),
+    ("WS", 9, "QBBB A FIR SEV ICE OBS WI N00 E180 - N01 E001 - N02 E001 - N03 E001 - N00 E001 - N00 E002 - ^N01^ E180="),
+    ("WS", 9, "QBBB A FIR SEV ICE OBS WI N00 E180 - N01 E001 - N02 E001 - N03 E001 - N00 E001 - N00 E002 - S00 ^W179^="),
+    ("WS", 10, "QBBB A FIR SEV ICE OBS WI N00 E180 - N01 E001 - N02 E001 - N03 E001 - N00 E001 - N00 E002 - S00 W180 ^=^"),
+    ("WV", 7, "QBBB A FIR VA ERUPTION ^VA^ CLD="), ("WV", 7, "QBBB A FIR VA ERUPTION MT ^PSN^ N00 E000="),
+    ("WV", 8, "QBBB A FIR VA ERUPTION MT FIR CTA PSN N00 E000 VA CLD ^=^"), ("WV", 7, "QBBB A FIR VA ERUPTION PSN N00 ^VA^ CLD="),
+    ("WV", 8, "QBBB A FIR VA ERUPTION MT ABCDEFGHIJ ABCDEFGHIJ ABCDEFGH PSN N00 E000 VA CLD ^=^"),
+    ("WV", 7, "QBBB A FIR VA ERUPTION MT ABCDEFGHIJ ABCDEFGHIJ ^ABCDEFGHI^ PSN N00 E000 VA CLD="),
 ];
 
 #[test]
 fn places_of_refusal() {
     for (kind, number, body) in BODIES {
         let text = format!("{kind}AA00 QAAA 010000 CCX QBBB SIGMET 1 VALID 010000/010400 QAAA- {body}");
-        let place = text.find('^').unwrap_or(0);
-        assert_eq!(verdict(&text.replace('^', "")), (*number, place), "{text}");
+        let (before, word) = match text.split('^').collect::<Vec<_>>()[..] {
+            [before, word, _] => (before, word),
+            _ => ("", ""),
+        };
+        assert_eq!(verdict(text.replace('^', "")), (*number, before.len(), word.len()), "{text}");
     }
 }
 
 #[test]
 fn bytes_before_words() {
-    let at = |text: &[u8]| (decode(text).number, decode(text).place);
-    assert_eq!(at(b""), (1, 0));
-    assert_eq!(at(&[b'a'; 2049]), (1, 0));
-    assert_eq!(at(&[b' '; 2048]), (3, 2048));
-    assert_eq!(at(b"= a"), (2, 2));
-    assert_eq!(at(b"= \r\n="), (3, 4));
-    assert_eq!(at(b" \n="), (4, 2));
-    assert_eq!(at(b"WSAA00="), (4, 6));
+    assert_eq!(verdict(""), (1, 0, 0));
+    assert_eq!(verdict([b'a'; 2049]), (1, 0, 0));
+    assert_eq!(verdict([b' '; 2048]), (3, 2048, 0));
+    assert_eq!(verdict("= a"), (2, 2, 1));
+    assert_eq!(verdict("= \r\n="), (3, 4, 1));
+    assert_eq!(verdict(" \n="), (4, 2, 1));
+    assert_eq!(verdict("WSAA00="), (4, 6, 1));
+}
+
+/// The whole word for 4 to 12, wherever it stands and whatever is next to it; elsewhere one byte, or none.
+#[test]
+fn lengths_of_refusal() {
+    assert_eq!(verdict("WSAA0 QAAA 010000="), (4, 0, 5));
+    assert_eq!(verdict("\r\n  WSAA0\nQAAA 010000="), (4, 4, 5));
+    assert_eq!(verdict("WSAA00 QAAAAAA 010000="), (4, 7, 7));
+    assert_eq!(verdict("WSAA00 Q\r\n010000="), (4, 7, 1));
+    assert_eq!(verdict("WSAA00 QAAA 0100="), (4, 12, 4));
+    assert_eq!(verdict("WSAA00 QAAA 0100 ="), (4, 12, 4));
+    assert_eq!(verdict("WSAA00 QAAA\n="), (4, 12, 1));
+    assert_eq!(verdict("A".repeat(2047) + "="), (4, 0, 2047));
+    // A byte after the `=`, though its run is longer; a second `=` is one.
+    assert_eq!(verdict("WSAA00=QAAA"), (3, 7, 1));
+    assert_eq!(verdict("WSAA00= \nQAAA 010000="), (3, 9, 1));
+    assert_eq!(verdict("WSAA00==="), (3, 7, 1));
+    // No `=`: nothing stands at the end, not even after blanks.
+    assert_eq!(verdict("WSAA00"), (3, 6, 0));
+    assert_eq!(verdict("WSAA00 \r\n"), (3, 9, 0));
+    // A byte, and not its word.
+    assert_eq!(verdict("WSaa00 QAAA="), (2, 2, 1));
+    assert_eq!(verdict(b"WSAA00 \xff\xfe="), (2, 7, 1));
 }
 
 /// Class (a) is accepted, and its canonical text is its own canonical text.
@@ -105,7 +131,7 @@ fn good_ones_are_accepted() {
         let (class, text) = bulletin(7, index);
         let reply = decode(&text);
         if CLASSES[class] == "good" {
-            assert_eq!((reply.number, reply.place), (0, 0), "{}", text.escape_ascii());
+            assert_eq!(verdict(&text), (0, 0, 0), "{}", text.escape_ascii());
         }
         if reply.number == 0 {
             let words: Vec<&str> = cut(&text).unwrap().iter().map(|w| w.text).collect();
@@ -142,17 +168,20 @@ fn beginnings_can_be_ended() {
     }
 }
 
-/// A row is read as it was written, whatever its bytes; another number or another canonical text is wrong.
+/// A row is read as it was written, whatever its bytes; another number, length or canonical text is wrong.
 #[test]
 fn rows_are_read_back() {
     let table: String = (0..10_000).map(|index| row(9, index)).collect();
     assert!(judge(&table).ends_with("\n10000 ok, 0 wrong\n"));
     let sample = SAMPLE.replace("\r\n", "\\r\\n");
     let one_line = SAMPLE.replace("\r\n", " ");
-    assert_eq!(judge(&format!("a 0 0 {sample}\n")), "a: 0 0 ok\n1 ok, 0 wrong\n");
-    assert_eq!(judge(&format!("a 0 0 {one_line}|{sample}\n")), "a: 0 0 ok\n1 ok, 0 wrong\n");
-    assert_eq!(judge(&format!("a 0 0 {one_line}\n")), "a: 0 0 WRONG\n0 ok, 1 wrong\n");
-    assert_eq!(judge(&format!("a 9 100 {sample}\n")), "a: 0 0 WRONG\n0 ok, 1 wrong\n");
+    assert_eq!(judge(&format!("a 0 0 0 {sample}\n")), "a: 0 0 0 ok\n1 ok, 0 wrong\n");
+    assert_eq!(judge(&format!("a 0 0 0 {one_line}|{sample}\n")), "a: 0 0 0 ok\n1 ok, 0 wrong\n");
+    assert_eq!(judge(&format!("a 0 0 0 {one_line}\n")), "a: 0 0 0 WRONG\n0 ok, 1 wrong\n");
+    assert_eq!(judge(&format!("a 9 100 4 {sample}\n")), "a: 0 0 0 WRONG\n0 ok, 1 wrong\n");
+    let refused = sample.replace("E114", "E181");
+    assert_eq!(judge(&format!("a 9 100 4 {refused}\n")), "a: 9 100 4 ok\n1 ok, 0 wrong\n");
+    assert_eq!(judge(&format!("a 9 100 1 {refused}\n")), "a: 9 100 4 WRONG\n0 ok, 1 wrong\n");
 }
 
 /// Days counted month by month.

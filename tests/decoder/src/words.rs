@@ -13,19 +13,19 @@ fn allowed(b: u8) -> bool {
     b.is_ascii_uppercase() || b.is_ascii_digit() || blank(b) || b"/-.,()=".contains(&b)
 }
 
-/// The words, the `=` last; or the number and the place of the refusal.
-pub fn cut(bulletin: &[u8]) -> Result<Vec<Word<'_>>, (u8, usize)> {
+/// The words, the `=` last; or the number, the place and the length of the refusal: one byte, or 0 where there is none to show.
+pub fn cut(bulletin: &[u8]) -> Result<Vec<Word<'_>>, (u8, usize, usize)> {
     if bulletin.is_empty() || bulletin.len() > 2048 {
-        return Err((1, 0));
+        return Err((1, 0, 0));
     }
     if let Some(place) = bulletin.iter().position(|&b| !allowed(b)) {
-        return Err((2, place));
+        return Err((2, place, 1));
     }
     let Some(end) = bulletin.iter().position(|&b| b == b'=') else {
-        return Err((3, bulletin.len()));
+        return Err((3, bulletin.len(), 0));
     };
     if let Some(more) = bulletin[end + 1..].iter().position(|&b| !blank(b)) {
-        return Err((3, end + 1 + more));
+        return Err((3, end + 1 + more, 1));
     }
     // Only ASCII is left here.
     let text = std::str::from_utf8(bulletin).unwrap();
