@@ -9,6 +9,7 @@ use lib.ListN.{length}
 use Rattle.lists.specs.Choice.{pick, both}
 use Rattle.lists.specs.Lists.{allOf, same}
 use Rattle.lists.specs.Base.{worthAfter}
+use Rattle.words.specs.Words.{equalsSign}
 
 abbrev pub byte : ℕ → Bool
 byte x = ltb x 256
@@ -30,9 +31,10 @@ behindOne (suc k) n = pick (ltb n 256) [] (behindOne k (n / 256) ++ (n % 256 ∷
 abbrev pub spellCode : ℕ → List ℕ
 spellCode n = behindOne 7 n
 
--- a fixed word and its code
+-- a fixed word and its code; it is not empty, and it is not the `=`
 pub record FixedWord (k : List ℕ) (code : ℕ) : Type 0 where
   pub is-short : short k ≡ true
   pub has : codeOf k ≡ code
   pub some : same [] k ≡ false
+  pub other : same equalsSign k ≡ false
   pub spelled : spellCode code ≡ k

@@ -1,6 +1,6 @@
 -- What the machine does with the first word of a report and with the time of a forecast; and which words are a level, known by what the code looks at.
 use mathlib.Core.Bool.{true, false, not}
-use mathlib.Core.List.{List, []}
+use mathlib.Core.List.{List}
 use mathlib.Core.Logic.{⊎-elim}
 use mathlib.Core.Path.{_≡_, refl, ap, sym, _∙_}
 use Prim.Native.Nat.{ℕ}
@@ -22,6 +22,7 @@ use Rattle.grammar.specs.States.{ToArea, ToLevel}
 use Rattle.grammar.specs.Steps.{goesIf, stepWeather, kindOf, flightOf, stepForm, endTime, step}
 use Rattle.reader_sections.specs.Endings.{forecastTime}
 use Rattle.reader_sections.specs.Reports.{flightIn, Reporting}
+use Rattle.reader_sections.proofs.RunsAt.{OnlyWords}
 
 -- the first word of a report is judged by the kind of the bulletin
 module _ (o : ToArea) (w : List ℕ) (r : Reporting w) where
@@ -39,14 +40,14 @@ pub time-judged : (l : ToLevel) (i : ℕ) (w : List ℕ) {end : Time} → endTim
 unfolding step
 time-judged l i w e = ap (λ (u : Time). goesIf (forecastTime u (timeOf w)) (atPlace (inForecast l i) atLocation)) e
 
--- the `=` is no level
-pub level-none : goodLevelWord (levelOf []) ≡ false
+-- neither the empty word nor the `=` is a level
+pub level-none : OnlyWords (λ (w : List ℕ). goodLevelWord (levelOf w))
 unfolding levelOf goodLevelWord
-level-none = refl
+level-none = record { empty = refl; sign = refl }
 
-pub flight-none : flight (flightIn []) ≡ false
+pub flight-none : OnlyWords (λ (w : List ℕ). flight (flightIn w))
 unfolding levelOf
-flight-none = refl
+flight-none = record { empty = refl; sign = refl }
 
 -- a level that is read from a word is a good one
 good-read : (w : List ℕ) → (levelOf w ≡ NoLevel → ⊥) → goodLevelWord (levelOf w) ≡ true

@@ -8,7 +8,8 @@ use lib.Dec.{eqb}
 use lib.ListN.{length}
 use borrow.Author.Tests.{eq-eqb, ne-eqb, eqb-true, eqb-false}
 use Rattle.lists.specs.Lists.{part, same}
-use Rattle.lists.proofs.Choice.{by, clash, pick-true, pick-false}
+use Rattle.lists.proofs.Choice.{by, clash, pick-true, pick-false, both-false-right}
+use Rattle.words.specs.Words.{wordFrom, lengthAt}
 use Rattle.figures.specs.Codes.{codeOf, FixedWord}
 use Rattle.figures.proofs.CodeLaws.{same-code}
 use Rattle.headings.specs.Headings.{correctionOf, goodCorrection}
@@ -23,9 +24,9 @@ use Rattle.grammar.specs.States.{State}
 use Rattle.grammar.specs.Steps.{step}
 use Rattle.reader_sections.specs.declared.steps.Step.{Step}
 use Rattle.reader_sections.specs.Openings.{CorrectionSays}
-use Rattle.reader_sections.specs.Steps.{wordOn, concluded, wordFrom, WordAt, runOn, Leads, Finishes, Stands, Before, Judged, Takes, TakesFixed, TakesLong, MayTake, Closes}
-use Rattle.reader_sections.proofs.OneWord.{Goes, good-word, bad-word, part-is, goes-word, same-word}
-use Rattle.reader_sections.proofs.RunsAt.{skip, word-again, some-word}
+use Rattle.reader_sections.specs.Steps.{wordOn, concluded, WordAt, runOn, Leads, Finishes, Stands, Before, Judged, Takes, TakesFixed, TakesLong, MayTake, Closes}
+use Rattle.reader_sections.proofs.OneWord.{Goes, good-word, bad-word, goes-word, same-word}
+use Rattle.reader_sections.proofs.RunsAt.{OnlyWords, nothing, part-test, part-passes, in-text, skip, word-again}
 use Rattle.reader_sections.proofs.Tells.{FieldTells, correction-tells}
 
 module _ {s mid : State} {t : List ℕ} {from to : Step} (g : Leads s t from to mid) where
@@ -60,40 +61,37 @@ over {mid = mid} {next} {t} {to = to} z g = record { says = g .says ∙ (on-refu
 pub whether : {A : Type 0} (n : ℕ) → (n ≡ 0 → A) → ((n ≡ 0 → ⊥) → A) → A
 whether n f g = by (eqb n 0) (λ e. f (eqb-true n 0 e)) (λ e. g (eqb-false n 0 e))
 
-pub nothing : (t : List ℕ) (a e : ℕ) → a ≡ e → part a e t ≡ []
-nothing t a e p = let z : e - a ≡ 0 = omega arith in rw z
-
 -- a step stands within the text
 pub standing : {t : List ℕ} {p : Step} → Stands t p → p .place ≤ length t
 standing f = omega (arith, f .ordered, f .within)
 
 -- the run from a place on is that at the step before the next word
-pub before-run : {t : List ℕ} {at : ℕ} {to : Step} (s : State) → at ≤ length t → Before t at to → runAt s t at ≡ runOn s t to
-before-run {t} {at} {to} s h p = skip s t at h ∙ (ap (runAt s t) (sym (p .placed)) ∙ sym (on-going s t to (p .going)))
+pub before-run : {t : List ℕ} {at : ℕ} {to : Step} (s : State) → Before t at to → runAt s t at ≡ runOn s t to
+before-run {t} {at} {to} s p = skip s t at ∙ (ap (runAt s t) (sym (p .placed)) ∙ sym (on-going s t to (p .going)))
 
 -- the reply to a text, from the step before its first word on
 module _ {s : State} {t : List ℕ} {start to : Step} (b : Before t 0 start) where
   -- refused on the way
-  pub replied : {next : State} → Leads s t start to next → (to .number ≡ 0 → ⊥) → replyOf (runAt s t 0) ≡ refusal (to .number) (to .place)
-  replied {next} g z = rw (before-run s zero-le b ∙ (g .says ∙ on-refused next t to z))
+  pub replied : {next : State} → Leads s t start to next → (to .number ≡ 0 → ⊥) → replyOf t (runAt s t 0) ≡ refusal (to .number) (to .place) (lengthAt t (to .place))
+  replied {next} g z = rw (before-run s b ∙ (g .says ∙ on-refused next t to z))
 
   module _ {r : Record} (g : Finishes s t start to r) where
-    pub answered : (to .number ≡ 0 → ⊥) → replyOf (runAt s t 0) ≡ refusal (to .number) (to .place)
-    answered z = rw (before-run s zero-le b ∙ (g .says ∙ pick-false _ _ (ne-eqb (to .number) 0 z)))
+    pub answered : (to .number ≡ 0 → ⊥) → replyOf t (runAt s t 0) ≡ refusal (to .number) (to .place) (lengthAt t (to .place))
+    answered z = rw (before-run s b ∙ (g .says ∙ pick-false _ _ (ne-eqb (to .number) 0 z)))
 
-    pub accepts : to .number ≡ 0 → replyOf (runAt s t 0) ≡ acceptance r
-    accepts z = rw (before-run s zero-le b ∙ (g .says ∙ pick-true _ _ (eq-eqb (to .number) 0 z)))
+    pub accepts : to .number ≡ 0 → replyOf t (runAt s t 0) ≡ acceptance r
+    accepts z = rw (before-run s b ∙ (g .says ∙ pick-true _ _ (eq-eqb (to .number) 0 z)))
 
 -- past the word at a step
 pub past-leads : {s next : State} {t : List ℕ} {from to : Step} → Stands t from → from .number ≡ 0 → Goes s t (from .place) 0 (from .end) next → Before t (from .end) to
     → Leads s t from to next
-past-leads {s} {next} {t} {from} f z g p = record { says = on-going s t from z ∙ (g .says ∙ before-run next (f .within) p) }
+past-leads {s} {next} {t} {from} f z g p = record { says = on-going s t from z ∙ (g .says ∙ before-run next p) }
 
-pub before-is : {t : List ℕ} {at start end : ℕ} → at ≤ length t → WordAt t at start end → Before t at (record { number = 0; place = start; end = end })
-before-is h w = record {
+pub before-is : {t : List ℕ} {at start end : ℕ} → WordAt t at start end → Before t at (record { number = 0; place = start; end = end })
+before-is w = record {
   going = refl;
   placed = w .starts;
-  stands = record { ordered = w .ordered; within = w .within; going = λ z. word-again h w; stays = λ z. absurd (z refl) };
+  stands = record { ordered = w .ordered; within = w .within; going = λ z. word-again w; stays = λ z. absurd (z refl) };
 }
 
 -- what `judged` does
@@ -138,14 +136,14 @@ module _ {t : List ℕ} {from to : Step} {g : Bool} {refusal : ℕ} (f : Stands 
   judged-went never y = whether (from .number) (λ z. z) (λ z. sym (stuck z (never z)) ∙ y)
 
 module _ {t : List ℕ} {from to : Step} {g : Bool} {refusal : ℕ} (f : Stands t from) (j : Judged t from g refusal to) where
-  module _ {A : Type 0} {read : List ℕ → A} {good : A → Bool} {v : A} (none : good (read []) ≡ false)
+  module _ {A : Type 0} {read : List ℕ → A} {good : A → Bool} {v : A} (only : OnlyWords (λ (w : List ℕ). good (read w)))
       (e : v ≡ read (wordOn t from)) (b : g ≡ good v) where
     pub takes : Takes read good refusal t from to v
     takes = record {
       says = λ s next k n. judged-leads f j
-          (λ z. let same-place : from .place ≡ from .end = sym (f .stays z) in b ∙ (ap good (e ∙ ap read (nothing t _ _ same-place)) ∙ none))
-          (λ z y. good-word (standing f) (f .going z) read good e s next (k z) none (sym b ∙ y))
-          (λ z y. bad-word (standing f) (f .going z) read good e s next (k z) n (sym b ∙ y));
+          (λ z. let same-place : from .place ≡ from .end = sym (f .stays z) in b ∙ (ap good (e ∙ ap read (nothing t _ _ same-place)) ∙ only .empty))
+          (λ z y. good-word (standing f) (f .going z) read good e s next (k z) only (sym b ∙ y))
+          (λ z y. bad-word (standing f) (f .going z) read good e s next (k z) only n (sym b ∙ y));
       stands = j .stands;
     }
 
@@ -158,9 +156,12 @@ field-good {field = field} {none} k w v e =
 pub takes-by-field : {A : Type 0} {read : List ℕ → A} {good : A → Bool} {field : A → ℕ} {none : ℕ} {t : List ℕ} {from to : Step} {refusal : ℕ} {v : A}
     → FieldTells read good field none → Stands t from → v ≡ read (wordOn t from)
     → Judged t from (not (eqb (field v) none)) refusal to → Takes read good refusal t from to v
-takes-by-field k f e j = takes f j (k .end) e (field-good k _ _ e)
+takes-by-field k f e j = takes f j (k .only) e (field-good k _ _ e)
 
 -- a fixed word, by its code
+only-fixed : {k : List ℕ} {m : ℕ} → FixedWord k m → OnlyWords (λ (w : List ℕ). same w k)
+only-fixed x = record { empty = x .some; sign = x .other }
+
 module _ {t : List ℕ} {from : Step} {c : ℕ} (f : Stands t from) (e : c ≡ codeOf (wordOn t from)) where
   pub coded : (k : List ℕ) (m : ℕ) → FixedWord k m → eqb c m ≡ same (wordOn t from) k
   coded k m x = rw (e, sym (x .has)) (same-code (wordOn t from) k (x .is-short))
@@ -173,7 +174,7 @@ module _ {t : List ℕ} {from : Step} {c : ℕ} (f : Stands t from) (e : c ≡ c
 
   pub takes-fixed : {to : Step} {m refusal : ℕ} → Judged t from (eqb c m) refusal to → TakesFixed m refusal t from to
   takes-fixed {m = m} j = record {
-    says = λ k x s next i n. takes f j {A = List ℕ} {read = λ (u : List ℕ). u} {good = λ (u : List ℕ). same u k} (x .some) refl (coded k m x) .says s (λ u. next) i n;
+    says = λ k x s next i n. takes f j {A = List ℕ} {read = λ (u : List ℕ). u} {good = λ (u : List ℕ). same u k} (only-fixed x) refl (coded k m x) .says s (λ u. next) i n;
     went = λ x y. judged-went f j (code-never x) y;
     stands = j .stands;
   }
@@ -183,16 +184,16 @@ module _ {t : List ℕ} {from : Step} {c : ℕ} (f : Stands t from) (e : c ≡ c
   code-going {m = m} x y = whether (from .number) (λ z. z) (λ z. clash (eqb c m) (eq-eqb c m y) (code-never x z))
 
   pub code-yes : {k : List ℕ} {m : ℕ} → FixedWord k m → c ≡ m → same (wordFrom t (from .place)) k ≡ true
-  code-yes {k} {m} x y = ap (λ (u : List ℕ). same u k) (sym (part-is (f .going (code-going x y)))) ∙ (sym (coded k m x) ∙ eq-eqb c m y)
+  code-yes {k} {m} x y = sym (part-test (standing f) (f .going (code-going x y)) (only-fixed x)) ∙ (sym (coded k m x) ∙ eq-eqb c m y)
 
   pub code-no : {k : List ℕ} {m : ℕ} → from .number ≡ 0 → FixedWord k m → (c ≡ m → ⊥) → same (wordFrom t (from .place)) k ≡ false
-  code-no {k} {m} z x y = ap (λ (u : List ℕ). same u k) (sym (part-is (f .going z))) ∙ (sym (coded k m x) ∙ ne-eqb c m y)
+  code-no {k} {m} z x y = sym (part-test (standing f) (f .going z) (only-fixed x)) ∙ (sym (coded k m x) ∙ ne-eqb c m y)
 
   pub goes-code : {to : Step} {k : List ℕ} {m : ℕ} → FixedWord k m → c ≡ m → Before t (from .end) to → (s next : State) → step s (wordFrom t (from .place)) ≡ goes next
       → Leads s t from to next
   goes-code {k = k} x y p s next i =
       let z : from .number ≡ 0 = code-going x y in
-      past-leads f z (goes-word (standing f) (f .going z) s next (some-word (λ (u : List ℕ). same u k) _ (x .some) (code-yes x y)) i) p
+      past-leads f z (goes-word (standing f) (f .going z) s next (in-text (standing f) (f .going z) (only-fixed x) (code-yes x y)) i) p
 
   pub may-yes : {to : Step} (m : ℕ) → c ≡ m → Before t (from .end) to → MayTake m t from true to
   may-yes m y p = record {
@@ -220,17 +221,18 @@ pub closes-going : {from to : Step} → from .number ≡ 0 → ((t : List ℕ) (
     → Closes from to
 closes-going {from} z e = record { says = λ t r f. record { says = on-going (atEnd r) t from z ∙ e t r f } }
 
--- the empty word is none that has a byte
-no-word : (k : List ℕ) → 0 < length k → same [] k ≡ false
+-- neither the empty word nor the `=` is one of more bytes
+only-long : (k : List ℕ) → 1 < length k → OnlyWords (λ (w : List ℕ). same w k)
 unfolding same
-no-word [] h = absurd (omega arith)
-no-word (x ∷ k) h = refl
+only-long [] h = absurd (omega arith)
+only-long (x ∷ []) h = absurd (omega arith)
+only-long (x ∷ y ∷ k) h = record { empty = refl; sign = both-false-right (eqb 61 x) refl }
 
 -- a long fixed word
-pub takes-long : {t wanted : List ℕ} {from to : Step} {refusal : ℕ} {found : Bool} → 0 < length wanted → Stands t from
+pub takes-long : {t wanted : List ℕ} {from to : Step} {refusal : ℕ} {found : Bool} → 1 < length wanted → Stands t from
     → found ≡ same (wordOn t from) wanted → Judged t from found refusal to → TakesLong wanted refusal t from to
 takes-long {wanted = wanted} some f e j = record {
-  says = λ s next k n. takes f j {A = List ℕ} {read = λ (u : List ℕ). u} {good = λ (u : List ℕ). same u wanted} (no-word wanted some) refl e .says s (λ u. next) k n;
+  says = λ s next k n. takes f j {A = List ℕ} {read = λ (u : List ℕ). u} {good = λ (u : List ℕ). same u wanted} (only-long wanted some) refl e .says s (λ u. next) k n;
   stands = j .stands;
 }
 
@@ -242,7 +244,7 @@ module _ {t : List ℕ} {from : Step} {v : ℕ} (f : Stands t from) (e : v ≡ c
     says = λ d c g. whether (from .number)
         (λ z.
         let k : WordAt t (from .place) (from .place) (from .end) = f .going z in
-        let other : goodCorrection (correctionOf (wordFrom t (from .place))) ≡ false = correction-tells .bad (wordFrom t (from .place)) _ refl (ap correctionOf (sym (part-is k)) ∙ (sym e ∙ y)) in
+        let other : goodCorrection (correctionOf (wordFrom t (from .place))) ≡ false = sym (part-test (standing f) k (correction-tells .only)) ∙ correction-tells .bad (wordOn t from) _ refl (sym e ∙ y) in
         from-going z (rw z (same-word (standing f) k (atCorrection d c g) (atUnit (record { designator = d; centre = c; sent = g; correction = v })) refl (rw (other, y)))))
         (λ z. stays z refl refl);
     stands = f;
@@ -254,10 +256,12 @@ module _ {t : List ℕ} {from : Step} {v : ℕ} (f : Stands t from) (e : v ≡ c
     says = λ d c g. whether (from .number)
         (λ z.
         let k : WordAt t (from .place) (from .place) (from .end) = f .going z in
-        let is : v ≡ correctionOf (wordFrom t (from .place)) = e ∙ ap correctionOf (part-is k) in
-        let good : goodCorrection (correctionOf (wordFrom t (from .place))) ≡ true = correction-tells .fine (wordFrom t (from .place)) _ refl (λ q. y (is ∙ q)) in
+        let passes : goodCorrection (correctionOf (wordOn t from)) ≡ true = correction-tells .fine (wordOn t from) _ refl (λ q. y (e ∙ q)) in
+        let word : wordOn t from ≡ wordFrom t (from .place) = part-passes (standing f) k (correction-tells .only) passes in
+        let is : v ≡ correctionOf (wordFrom t (from .place)) = e ∙ ap correctionOf word in
+        let good : goodCorrection (correctionOf (wordFrom t (from .place))) ≡ true = rw word at passes in
         past-leads f z (goes-word (standing f) k (atCorrection d c g) (atUnit (record { designator = d; centre = c; sent = g; correction = v }))
-        (some-word (λ (x : List ℕ). goodCorrection (correctionOf x)) (wordFrom t (from .place)) (correction-tells .end) good) (rw (good, is))) p)
+        (in-text (standing f) k (correction-tells .only) good) (rw (good, is))) p)
         (λ z. absurd (y (e ∙ ap correctionOf (nothing t _ _ (sym (f .stays z))))));
     stands = p .stands;
   }

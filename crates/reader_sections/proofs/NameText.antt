@@ -10,8 +10,10 @@ use lib.ListN.{length, take, length-append}
 use lib.Seq.{take-append-seam}
 use borrow.Author.Tests.{le-leb, lt-leb, leb-true}
 use Rattle.lists.specs.Choice.{pick, both}
+use Rattle.lists.specs.Lists.{allOf}
 use Rattle.lists.proofs.Choice.{by, clash, both-left, both-right, both-unit, both-false-left, both-false-right, pick-true, pick-false}
 use Rattle.lists.proofs.Lists.{length-part}
+use Rattle.words.specs.Words.{wordFrom}
 use Rattle.names.specs.Names.{closingOf, goodClosing, nameWord, inName}
 use Rattle.message.specs.declared.FirstLine.{FirstLine}
 use Rattle.message.specs.declared.Heading.{Heading}
@@ -24,12 +26,11 @@ use Rattle.grammar.specs.States.{ToArea, State, Move}
 use Rattle.grammar.specs.Steps.{goesIf, grown, begun, goneOn, step}
 use Rattle.grammar.proofs.NameText.{open-area, open-mountain}
 use Rattle.reader_sections.specs.declared.steps.Step.{Step}
-use Rattle.reader_sections.specs.Steps.{wordOn}
 use Rattle.reader_sections.specs.Names.{BelongsSays, FirstSays, GrownSays, TakesName, NameSays}
-use Rattle.reader_sections.specs.Steps.{wordFrom, Leads, Stands, Before, Judged}
-use Rattle.reader_sections.proofs.Leads.{then, over, whether, nothing, standing, past-leads, judged-good, takes}
-use Rattle.reader_sections.proofs.OneWord.{part-is, goes-word}
-use Rattle.reader_sections.proofs.RunsAt.{some-word}
+use Rattle.reader_sections.specs.Steps.{wordOn, Leads, Stands, Before, Judged}
+use Rattle.reader_sections.proofs.Leads.{then, over, whether, standing, past-leads, judged-good, takes}
+use Rattle.reader_sections.proofs.OneWord.{goes-word}
+use Rattle.reader_sections.proofs.RunsAt.{OnlyWords, nothing, part-test, part-passes, in-text}
 
 -- The states of a name.
 
@@ -101,6 +102,15 @@ module _ {m found : Bool} {limit used : ℕ} {t : List ℕ} {from : Step} (b : B
   going : Stands t from → found ≡ true → from .number ≡ 0
   going f y = whether (from .number) (λ z. z) (λ z. clash found y (never f z))
 
+-- neither the empty word nor the `=` is a word of a name
+begun-only : (m : Bool) (limit : ℕ) → OnlyWords (begun m limit)
+unfolding nameWord allOf
+begun-only m limit = record { empty = refl; sign = refl }
+
+gone-only : (m : Bool) (limit : ℕ) (x : List ℕ) → OnlyWords (goneOn m limit x)
+unfolding nameWord allOf
+gone-only m limit x = record { empty = refl; sign = refl }
+
 -- A name while it is read.
 
 abbrev pub textOf : Name → List ℕ
@@ -127,7 +137,7 @@ module _ {m found : Bool} {limit refusal : ℕ} {t : List ℕ} {from : Step} {be
   gone-on z =
       let many : name .count ≡ length (textOf name) = ap (λ (k : Name). k .count) (n .named z) in
       let grows : name .count + 1 + length (wordOn t to) ≡ length (grown (textOf name) (wordOn t to)) = omega (arith, length-append (textOf name) (32 ∷ wordOn t to)) in
-      b .tells ∙ (ap (λ (k : ℕ). both (inName m (wordOn t to)) (leb k limit)) grows ∙ ap (goneOn m limit (textOf name)) (part-is (n .stands .going z)))
+      b .tells ∙ (ap (λ (k : ℕ). both (inName m (wordOn t to)) (leb k limit)) grows ∙ part-test (standing (n .stands)) (n .stands .going z) (gone-only m limit (textOf name)))
 
   -- one word more
   module _ {name′ : Name} (y : found ≡ true) (g : GrownSays name (wordOn t to) name′) where
@@ -142,9 +152,10 @@ module _ {m found : Bool} {limit refusal : ℕ} {t : List ℕ} {from : Step} {be
         let x : List ℕ = textOf name in
         let w : List ℕ = wordFrom t (to .place) in
         let yes : goneOn m limit x w ≡ true = sym (gone-on z) ∙ y in
-        let is : name′ ≡ nameOf (grown x w) = g .says x (n .named z) ∙ ap (λ (u : List ℕ). nameOf (grown x u)) (part-is (f .going z)) in
+        let word : wordOn t to ≡ w = part-passes (standing f) (f .going z) (gone-only m limit x) (part-test (standing f) (f .going z) (gone-only m limit x) ∙ yes) in
+        let is : name′ ≡ nameOf (grown x w) = g .says x (n .named z) ∙ ap (λ (u : List ℕ). nameOf (grown x u)) word in
         let text : textOf name′ ≡ grown x w = text-is is in
-        let some : 0 < length w = some-word (goneOn m limit x) w refl yes in
+        let some : to .place < length t = in-text (standing f) (f .going z) (gone-only m limit x) yes in
         record {
           says = λ first more closed k. then (n .says first more closed k)
               (past-leads f z (goes-word (standing f) (f .going z) (more x) (more (textOf name′)) some (k .goes-on x w ∙ rw (yes, text))) p);
@@ -179,7 +190,7 @@ module _ {m begins : Bool} {limit refusal : ℕ} {t : List ℕ} {from : Step} {b
   unfolding nameWord
   begun-leads first more closed k =
       let word : Leads first t from mid (more (wordOn t from)) =
-      takes f j {A = List ℕ} {read = λ (u : List ℕ). u} {good = begun m limit} refl refl begun-is .says first more (λ z. k .begins _) (k .first-number) in
+      takes f j {A = List ℕ} {read = λ (u : List ℕ). u} {good = begun m limit} (begun-only m limit) refl begun-is .says first more (λ z. k .begins _) (k .first-number) in
       let text : begins ≡ true → textOf before ≡ wordOn t from = λ y. text-is (begun-name y) in
       by begins (λ y. rw (text y) word) (λ y. over (λ z. clash begins (begun-good z) y) word)
 

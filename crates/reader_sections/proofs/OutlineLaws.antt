@@ -3,7 +3,7 @@
 use mathlib.Core.Bool.{Bool, true, false, not}
 use mathlib.Core.List.{List, [], _∷_, _++_, append-assoc}
 use mathlib.Core.Path.{_≡_, refl, ap, sym, _∙_}
-use Prim.Native.Nat.{ℕ, suc, _+_, _-_, _<_}
+use Prim.Native.Nat.{ℕ, suc, _+_, _-_, _≤_, _<_}
 use native.Mathlib.Omega.{arith}
 use lib.Dec.{eqb, ltb, leb}
 use lib.ListN.{length, getD, set, replicate, length-append, List·getD-append}
@@ -12,6 +12,7 @@ use borrow.Author.Tests.{ltb-true}
 use Rattle.lists.specs.Choice.{pick, both, either}
 use Rattle.lists.specs.Lists.{part}
 use Rattle.lists.proofs.Choice.{by, clash, both-left, both-right, both-false-left}
+use Rattle.words.specs.Words.{equalsSign, wordFrom}
 use Rattle.vocabulary.specs.Codes.{code-dash}
 use Rattle.vocabulary.proofs.FixedWords.{fixed-dash}
 use Rattle.coordinates.specs.declared.Coordinate.{Coordinate}
@@ -32,10 +33,10 @@ use Rattle.grammar.specs.Steps.{closingAt, after}
 use Rattle.reader_sections.specs.declared.steps.Step.{Step}
 use Rattle.reader_sections.specs.Locations.{LocatedSays}
 use Rattle.reader_sections.specs.Outlines.{Points, FollowsSays, ClosesSays, LatitudeSays, LongitudeSays, PointSays}
-use Rattle.reader_sections.specs.Steps.{wordOn, wordFrom, WordAt, Leads, Stands, Judged, TakesFixed}
-use Rattle.reader_sections.proofs.Leads.{then, over, nothing, judged-leads, judged-good, takes, field-good, standing}
-use Rattle.reader_sections.proofs.OneWord.{part-is, goes-word, dead-word}
-use Rattle.reader_sections.proofs.RunsAt.{some-word}
+use Rattle.reader_sections.specs.Steps.{wordOn, WordAt, Leads, Stands, Judged, TakesFixed}
+use Rattle.reader_sections.proofs.Leads.{then, over, judged-leads, judged-good, takes, field-good, standing}
+use Rattle.reader_sections.proofs.OneWord.{goes-word, dead-word}
+use Rattle.reader_sections.proofs.RunsAt.{OnlyWords, nothing, part-tells, in-text}
 use Rattle.reader_sections.proofs.Sides.{on-step, there-step, nowhere-step, takes-on, fixed-on}
 use Rattle.reader_sections.proofs.Tells.{latitude-tells, longitude-tells}
 
@@ -79,7 +80,7 @@ pub latitude-says : {t : List ℕ} {from to : Step} {first : Point} {count refus
     → c ≡ coordinateOf northSouth (wordOn t from) → FollowsSays first count c may → g ≡ both (not (eqb (c .letter) 0)) may → Judged t from g refusal to
     → LatitudeSays first count refusal t from to c
 latitude-says f e may b j = record {
-  says = λ ps k. takes f j (both-false-left _ (latitude-tells .end)) e (b ∙ rw (field-good latitude-tells _ _ e, may .says ps k));
+  says = λ ps k. takes f j (record { empty = both-false-left _ (latitude-tells .only .empty); sign = both-false-left _ (latitude-tells .only .sign) }) e (b ∙ rw (field-good latitude-tells _ _ e, may .says ps k));
   stands = j .stands;
 }
 
@@ -91,10 +92,14 @@ picked true false enough room x y = refl
 picked false closed enough room x y = refl
 
 -- its longitude
-east-is : {t : List ℕ} {at start end : ℕ} {c : Coordinate} → WordAt t at start end → c ≡ coordinateOf eastWest (part start end t) → coordinateOf eastWest (wordFrom t at) ≡ c
-east-is w e = sym (e ∙ ap (coordinateOf eastWest) (part-is w))
+no-east : coordinateOf eastWest [] ≡ coordinateOf eastWest equalsSign
+unfolding coordinateOf
+no-east = refl
 
-module _ {t : List ℕ} {at start end : ℕ} (w : WordAt t at start end) {first : Point} {count : ℕ} {p : Point}
+east-is : {t : List ℕ} {at start end : ℕ} {c : Coordinate} → at ≤ length t → WordAt t at start end → c ≡ coordinateOf eastWest (part start end t) → coordinateOf eastWest (wordFrom t at) ≡ c
+east-is h w e = sym (e ∙ part-tells h w (coordinateOf eastWest) no-east)
+
+module _ {t : List ℕ} {at start end : ℕ} (h : at ≤ length t) (w : WordAt t at start end) {first : Point} {count : ℕ} {p : Point}
     (e : p .longitude ≡ coordinateOf eastWest (part start end t)) {closed fits : Bool} (shut : ClosesSays first count p closed)
     (fit : fits ≡ pick closed (leb leastPoints (count + 1)) (ltb (count + 1) mostPoints)) where
   longitude-step : (closing : ℕ) (ps : List Point) → Points first count ps
@@ -102,7 +107,7 @@ module _ {t : List ℕ} {at start end : ℕ} (w : WordAt t at start end) {first 
       ≡ pick (both (goodCoordinate eastWest (p .longitude)) fits) (pick closed (there (outlined (ps ++ (p ∷ [])))) (on (atDash (ps ++ (p ∷ []))))) nowhere
   unfolding placeStep pointed
   longitude-step closing ps k =
-      rw (east-is w e, ← (shut .says ps k), k .counted, fit) (picked (goodCoordinate eastWest (p .longitude)) closed (leb leastPoints (count + 1)) (ltb (count + 1) mostPoints) _ _)
+      rw (east-is h w e, ← (shut .says ps k), k .counted, fit) (picked (goodCoordinate eastWest (p .longitude)) closed (leb leastPoints (count + 1)) (ltb (count + 1) mostPoints) _ _)
 
 module _ {t : List ℕ} {from to : Step} {first : Point} {count refusal : ℕ} {p : Point} {closed fits g : Bool} (f : Stands t from)
     (e : p .longitude ≡ coordinateOf eastWest (wordOn t from)) (shut : ClosesSays first count p closed)
@@ -113,16 +118,14 @@ module _ {t : List ℕ} {from to : Step} {first : Point} {count refusal : ℕ} {
 
   never : (from .number ≡ 0 → ⊥) → g ≡ false
   never z =
-      good-fits ∙ both-false-left _ (ap (goodCoordinate eastWest) (e ∙ ap (coordinateOf eastWest) (nothing t _ _ (sym (f .stays z)))) ∙ longitude-tells .end)
+      good-fits ∙ both-false-left _ (ap (goodCoordinate eastWest) (e ∙ ap (coordinateOf eastWest) (nothing t _ _ (sym (f .stays z)))) ∙ longitude-tells .only .empty)
 
-  some : from .number ≡ 0 → g ≡ true → 0 < length (wordFrom t (from .place))
-  some z y =
-      some-word (λ (x : List ℕ). goodCoordinate eastWest (coordinateOf eastWest x)) (wordFrom t (from .place)) (longitude-tells .end)
-      (rw (east-is (f .going z) e) (both-left _ fits (sym good-fits ∙ y)))
+  some : from .number ≡ 0 → g ≡ true → from .place < length t
+  some z y = in-text (standing f) (f .going z) (longitude-tells .only) (rw (east-is (standing f) (f .going z) e) (both-left _ fits (sym good-fits ∙ y)))
 
   moved : (z : from .number ≡ 0) (site : Site) (ps : List Point) → Points first count ps → placeStep (closingAt site) (atLongitude ps (p .latitude)) (wordFrom t (from .place))
       ≡ pick g (pick closed (there (outlined (ps ++ (p ∷ [])))) (on (atDash (ps ++ (p ∷ []))))) nowhere
-  moved z site ps k = longitude-step (f .going z) e shut fit (closingAt site) ps k ∙ rw (sym good-fits)
+  moved z site ps k = longitude-step (standing f) (f .going z) e shut fit (closingAt site) ps k ∙ rw (sym good-fits)
 
   pub longitude-says : (refusal ≡ 0 → ⊥) → LongitudeSays first count (p .latitude) refusal t from to p closed
   longitude-says least = record {

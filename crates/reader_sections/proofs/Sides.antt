@@ -12,6 +12,7 @@ use Rattle.lists.specs.Base.{worthAfter}
 use Rattle.lists.specs.Lists.{allOf, part, same}
 use Rattle.lists.proofs.Choice.{by, either-right, either-cases, pick-true, pick-false}
 use Rattle.lists.proofs.Lists.{same-refl, same-is}
+use Rattle.words.specs.Words.{equalsSign, wordFrom}
 use Rattle.figures.specs.Codes.{short, codeOf, FixedWord}
 use Rattle.figures.proofs.CodeLaws.{code-tells}
 use Rattle.vocabulary.specs.Codes.{code-cta, code-fir, code-of}
@@ -34,10 +35,10 @@ use Rattle.grammar.specs.States.{Site, Placing}
 use Rattle.grammar.specs.Steps.{goesIf, closingAt, after, stepAfter, settled, step}
 use Rattle.reader_sections.specs.declared.steps.Step.{Step}
 use Rattle.reader_sections.specs.Locations.{sideIn, SideSays}
-use Rattle.reader_sections.specs.Steps.{wordOn, wordFrom, Leads, Stands, Before, Judged, Takes, TakesFixed}
-use Rattle.reader_sections.proofs.Leads.{then, whether, nothing, takes, standing, past-leads}
-use Rattle.reader_sections.proofs.OneWord.{part-is, goes-word}
-use Rattle.reader_sections.proofs.RunsAt.{some-word}
+use Rattle.reader_sections.specs.Steps.{wordOn, Leads, Stands, Before, Judged, Takes, TakesFixed}
+use Rattle.reader_sections.proofs.Leads.{then, whether, takes, standing, past-leads}
+use Rattle.reader_sections.proofs.OneWord.{goes-word}
+use Rattle.reader_sections.proofs.RunsAt.{OnlyWords, nothing, part-tells, in-text}
 
 -- the number of what follows a location
 pub following-number : (site : Site) (e : Extent) → numberOf (after site e) ≡ followingPart site
@@ -175,13 +176,25 @@ pub side-if : (a : Axis) (w : List ℕ) → 0 < a .plus → 0 < a .minus → (ne
 side-if a w p m next =
     rw (side-some a w p m) (by (sideWord a w) (λ y. rw (y)) (λ y. rw (y)))
 
+-- the letters of an axis are letters, which stand above the `=`
+module _ (a : Axis) (p : 61 < a .plus) (m : 61 < a .minus) where
+  side-only : OnlyWords (sideWord a)
+  unfolding same
+  side-only = record { empty = refl; sign = rw (ne-eqb 61 (a .plus) (λ z. omega arith), ne-eqb 61 (a .minus) (λ z. omega arith)) }
+
+  -- no letter, as of no word
+  side-sign : 0 ≡ sideIn (a .plus) (a .minus) equalsSign
+  side-sign = sym (pick-false _ _ (side-only .sign))
+
 module _ {t : List ℕ} {from : Step} {code letter : ℕ} (f : Stands t from) (e : code ≡ codeOf (wordOn t from)) (a : Axis)
-    (s : SideSays code (a .plus) (a .minus) letter) (p : 0 < a .plus) (m : 0 < a .minus) where
+    (s : SideSays code (a .plus) (a .minus) letter) (p : 61 < a .plus) (m : 61 < a .minus) where
+  some-side : (w : List ℕ) → not (eqb (sideIn (a .plus) (a .minus) w) 0) ≡ sideWord a w
+  some-side w = side-some a w (omega arith) (omega arith)
+
   -- the letter as the value of a word: 0 is none
   pub takes-side : {to : Step} {refusal : ℕ} → Judged t from (not (eqb letter 0)) refusal to
       → Takes (sideIn (a .plus) (a .minus)) (λ (l : ℕ). not (eqb l 0)) refusal t from to letter
-  unfolding same
-  takes-side j = takes f j refl (s .says _ e) refl
+  takes-side j = takes f j (record { empty = some-side [] ∙ side-only a p m .empty; sign = some-side equalsSign ∙ side-only a p m .sign }) (s .says _ e) refl
 
   -- a letter is a word, so nothing was refused before it
   pub side-going : (letter ≡ 0 → ⊥) → from .number ≡ 0
@@ -190,10 +203,11 @@ module _ {t : List ℕ} {from : Step} {code letter : ℕ} (f : Stands t from) (e
       (λ z. absurd (y (s .says _ e ∙ ap (sideIn (a .plus) (a .minus)) (nothing t _ _ (sym (f .stays z))))))
 
   letter-is : from .number ≡ 0 → letter ≡ sideIn (a .plus) (a .minus) (wordFrom t (from .place))
-  letter-is z = s .says _ e ∙ ap (sideIn (a .plus) (a .minus)) (part-is (f .going z))
+  unfolding same
+  letter-is z = s .says _ e ∙ part-tells (standing f) (f .going z) (sideIn (a .plus) (a .minus)) (side-sign a p m)
 
   pub side-no : from .number ≡ 0 → letter ≡ 0 → sideWord a (wordFrom t (from .place)) ≡ false
-  side-no z y = sym (side-some a (wordFrom t (from .place)) p m) ∙ rw (sym (letter-is z), y)
+  side-no z y = sym (some-side (wordFrom t (from .place))) ∙ rw (sym (letter-is z), y)
 
   pub side-on : {to : Step} → (letter ≡ 0 → ⊥) → Before t (from .end) to → (site : Site) (q : Placing) (next : ℕ → Placing)
       → (sideWord a (wordFrom t (from .place)) ≡ true → placeStep (closingAt site) q (wordFrom t (from .place)) ≡ on (next (getD (wordFrom t (from .place)) 0 0)))
@@ -201,8 +215,8 @@ module _ {t : List ℕ} {from : Step} {code letter : ℕ} (f : Stands t from) (e
   unfolding same
   side-on y past′ site q next j =
       let z : from .number ≡ 0 = side-going y in
-      let yes : sideWord a (wordFrom t (from .place)) ≡ true = sym (side-some a (wordFrom t (from .place)) p m) ∙ rw (sym (letter-is z), ne-eqb letter 0 y) in
-      past-leads f z (goes-word (standing f) (f .going z) (atPlace site q) (atPlace site (next letter)) (some-word (sideWord a) (wordFrom t (from .place)) refl yes)
+      let yes : sideWord a (wordFrom t (from .place)) ≡ true = sym (some-side (wordFrom t (from .place))) ∙ rw (sym (letter-is z), ne-eqb letter 0 y) in
+      past-leads f z (goes-word (standing f) (f .going z) (atPlace site q) (atPlace site (next letter)) (in-text (standing f) (f .going z) (side-only a p m) yes)
       (on-step site q _ (j yes ∙ ap (λ (x : ℕ). on (next x)) (sym (letter-is z ∙ pick-true _ _ yes))))) past′
 
 -- the word after `ENTIRE`

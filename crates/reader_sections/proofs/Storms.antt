@@ -9,6 +9,7 @@ use lib.ListN.{length}
 use borrow.Author.Tests.{lt-ltb, le-ltb, le-leb}
 use Rattle.lists.specs.Lists.{allOf, indexOf, part, same}
 use Rattle.lists.proofs.Choice.{clash, both-true}
+use Rattle.words.specs.Words.{wordFrom}
 use Rattle.figures.specs.Codes.{short, codeOf}
 use Rattle.figures.specs.Tables.{wordIn}
 use Rattle.figures.proofs.TableLaws.{find-word}
@@ -16,10 +17,10 @@ use Rattle.grammar.specs.States.State.{atForm, atStorm}
 use Rattle.grammar.specs.States.{ToArea}
 use Rattle.grammar.specs.Steps.{stormWords, stormOf, goodStorm, stepWeather, step}
 use Rattle.reader_sections.specs.declared.steps.Step.{Step}
-use Rattle.reader_sections.specs.Steps.{wordOn, wordFrom, Leads, Stands, Before}
-use Rattle.reader_sections.proofs.Leads.{whether, nothing, standing, past-leads}
-use Rattle.reader_sections.proofs.OneWord.{part-is, goes-word}
-use Rattle.reader_sections.proofs.RunsAt.{some-word}
+use Rattle.reader_sections.specs.Steps.{wordOn, Leads, Stands, Before}
+use Rattle.reader_sections.proofs.Leads.{whether, standing, past-leads}
+use Rattle.reader_sections.proofs.OneWord.{goes-word}
+use Rattle.reader_sections.proofs.RunsAt.{OnlyWords, nothing, part-test, part-passes, in-text}
 
 storms-short : allOf short stormWords ≡ true
 unfolding stormWords allOf
@@ -29,9 +30,9 @@ storms-count : length stormWords ≡ 4
 unfolding stormWords
 storms-count = refl
 
-storm-none : goodStorm (stormOf []) ≡ false
+storm-only : OnlyWords (λ (w : List ℕ). goodStorm (stormOf w))
 unfolding stormWords indexOf same
-storm-none = refl
+storm-only = record { empty = refl; sign = refl }
 
 module _ {t : List ℕ} {from : Step} {code n : ℕ} {codes : List ℕ} (f : Stands t from) (e : code ≡ codeOf (wordOn t from))
     (i : n ≡ indexOf (eqb code) codes) (p : codes ≡ map codeOf stormWords) where
@@ -50,14 +51,14 @@ module _ {t : List ℕ} {from : Step} {code n : ℕ} {codes : List ℕ} (f : Sta
       → Leads (atForm o) t from to (atStorm o (n + 1))
   goes-storm l past o j = whether (from .number)
       (λ z.
-      let word : wordOn t from ≡ wordFrom t (from .place) = part-is (f .going z) in
+      let word : wordOn t from ≡ wordFrom t (from .place) = part-passes (standing f) (f .going z) storm-only (storm-good l) in
       let good : goodStorm (stormOf (wordFrom t (from .place))) ≡ true = rw word at (storm-good l) in
-      past-leads f z (goes-word (standing f) (f .going z) (atForm o) (atStorm o (n + 1)) (some-word (λ (x : List ℕ). goodStorm (stormOf x)) (wordFrom t (from .place)) storm-none good)
+      past-leads f z (goes-word (standing f) (f .going z) (atForm o) (atStorm o (n + 1)) (in-text (standing f) (f .going z) storm-only good)
       (j z ∙ rw (good, ap stormOf (sym word) ∙ storm-number l))) past)
-      (λ z. clash _ (storm-good l) (ap (λ (u : List ℕ). goodStorm (stormOf u)) (nothing t _ _ (sym (f .stays z))) ∙ storm-none))
+      (λ z. clash _ (storm-good l) (ap (λ (u : List ℕ). goodStorm (stormOf u)) (nothing t _ _ (sym (f .stays z))) ∙ storm-only .empty))
 
   -- the word is none of theirs
   pub no-storm : from .number ≡ 0 → 4 ≤ n → goodStorm (stormOf (wordFrom t (from .place))) ≡ false
   no-storm z l =
-      ap (λ (u : List ℕ). goodStorm (stormOf u)) (sym (part-is (f .going z)))
+      sym (part-test (standing f) (f .going z) storm-only)
       ∙ rw (le-ltb (wordIn stormWords (wordOn t from)) (length stormWords) (omega (arith, storm-place, storms-count)))

@@ -1,6 +1,6 @@
--- What the one field that the code looks at tells of a word's value, for each kind; and that the `=` is a word of no kind.
+-- What the one field that the code looks at tells of a word's value, for each kind; and that neither the empty word nor the `=` is a word of any kind.
 use mathlib.Core.Bool.{Bool, true, false}
-use mathlib.Core.List.{List, []}
+use mathlib.Core.List.{List}
 use mathlib.Core.Path.{_≡_, refl}
 use Prim.Native.Nat.{ℕ, _^_}
 use lib.Dec.{ltb, eqb, lit<}
@@ -37,29 +37,30 @@ use Rattle.message.specs.declared.FirstLine.{FirstLine}
 use Rattle.grammar.specs.Steps.{cancels}
 use Rattle.reader_sections.specs.Endings.{forecastTime}
 use Rattle.reader_sections.proofs.OneWord.{field-yes, field-no}
+use Rattle.reader_sections.proofs.RunsAt.{OnlyWords}
 
--- a kind that a field tells: a word's value is good exactly where the field is not the number of none, and the `=` is no word of the kind
+-- a kind that a field tells: a word's value is good exactly where the field is not the number of none
 pub record FieldTells {A : Type 0} (read : List ℕ → A) (good : A → Bool) (field : A → ℕ) (none : ℕ) : Type 0 where
   pub bad : (w : List ℕ) (v : A) → v ≡ read w → field v ≡ none → good v ≡ false
   pub fine : (w : List ℕ) (v : A) → v ≡ read w → (field v ≡ none → ⊥) → good v ≡ true
-  pub end : good (read []) ≡ false
+  pub only : OnlyWords (λ (w : List ℕ). good (read w))
 
 tells-by : {A : Type 0} {read : List ℕ → A} {spell : A → List ℕ} {good : A → Bool} {none : A} → Reads read spell good none → (field : A → ℕ)
-    → ((v : A) → good v ≡ true → field v ≡ field none → ⊥) → good (read []) ≡ false → FieldTells read good field (field none)
-tells-by r field tells none = record { bad = field-no r field tells; fine = field-yes r field tells; end = none }
+    → ((v : A) → good v ≡ true → field v ≡ field none → ⊥) → OnlyWords (λ (w : List ℕ). good (read w)) → FieldTells read good field (field none)
+tells-by r field tells only = record { bad = field-no r field tells; fine = field-yes r field tells; only = only }
 
 -- four letters, and four letters and a hyphen
 letters-some : (n : ℕ) → goodLetters 4 n ≡ true → n ≡ 0 → ⊥
 unfolding goodLetters places allOf
 letters-some n g z = clash (goodLetters 4 n) g (rw z)
 
-letters-none : goodLetters 4 (lettersOf 4 []) ≡ false
+letters-none : OnlyWords (λ (w : List ℕ). goodLetters 4 (lettersOf 4 w))
 unfolding goodLetters lettersOf places allOf
-letters-none = refl
+letters-none = record { empty = refl; sign = refl }
 
-office-none : goodLetters 4 (officeOf []) ≡ false
+office-none : OnlyWords (λ (w : List ℕ). goodLetters 4 (officeOf w))
 unfolding goodLetters officeOf places allOf
-office-none = refl
+office-none = record { empty = refl; sign = refl }
 
 pub letters-tells : FieldTells (lettersOf 4) (goodLetters 4) (λ (n : ℕ). n) 0
 letters-tells = tells-by (letters-reads 4 (lit< tt) (lit< tt)) (λ (n : ℕ). n) letters-some letters-none
@@ -71,9 +72,9 @@ designator-some : (d : Designator) → goodDesignator d ≡ true → d .kind ≡
 unfolding goodDesignator typeWords
 designator-some d g z = clash (goodDesignator d) g (rw z)
 
-designator-none : goodDesignator (designatorOf []) ≡ false
+designator-none : OnlyWords (λ (w : List ℕ). goodDesignator (designatorOf w))
 unfolding goodDesignator designatorOf typeWords
-designator-none = refl
+designator-none = record { empty = refl; sign = refl }
 
 pub designator-tells : FieldTells designatorOf goodDesignator (λ (d : Designator). d .kind) 0
 designator-tells = tells-by designator-reads (λ (d : Designator). d .kind) designator-some designator-none
@@ -82,9 +83,9 @@ correction-some : (c : ℕ) → goodCorrection c ≡ true → c ≡ 0 → ⊥
 unfolding goodCorrection
 correction-some c g z = clash (goodCorrection c) g (rw z)
 
-correction-none : goodCorrection (correctionOf []) ≡ false
+correction-none : OnlyWords (λ (w : List ℕ). goodCorrection (correctionOf w))
 unfolding goodCorrection correctionOf
-correction-none = refl
+correction-none = record { empty = refl; sign = refl }
 
 pub correction-tells : FieldTells correctionOf goodCorrection (λ (c : ℕ). c) 0
 correction-tells = tells-by correction-reads (λ (c : ℕ). c) correction-some correction-none
@@ -95,9 +96,9 @@ sequence-some s g z =
     let few : characters s ≡ false = either-false (both-false-right (eqb (s .letter) 0) (rw z)) (both-false-right (letter (s .letter)) (rw z)) in
     clash (goodSequence s) g (both-false-left (both (ltb 0 (s .number)) (ltb (s .number) (10 ^ s .digits))) few)
 
-sequence-none : goodSequence (sequenceOf []) ≡ false
-unfolding goodSequence sequenceOf
-sequence-none = refl
+sequence-none : OnlyWords (λ (w : List ℕ). goodSequence (sequenceOf w))
+unfolding goodSequence sequenceOf figuresOf allOf worthAfter
+sequence-none = record { empty = refl; sign = refl }
 
 pub sequence-tells : FieldTells sequenceOf goodSequence (λ (s : Sequence). s .digits) 0
 sequence-tells = tells-by sequence-reads (λ (s : Sequence). s .digits) sequence-some sequence-none
@@ -106,9 +107,9 @@ group-some : (g : Group) → goodGroup g ≡ true → g .day ≡ 0 → ⊥
 unfolding goodGroup
 group-some g y z = clash (goodGroup g) y (rw z)
 
-group-none : goodGroup (groupOf []) ≡ false
+group-none : OnlyWords (λ (w : List ℕ). goodGroup (groupOf w))
 unfolding goodGroup groupOf
-group-none = refl
+group-none = record { empty = refl; sign = refl }
 
 pub group-tells : FieldTells groupOf goodGroup (λ (g : Group). g .day) 0
 group-tells = tells-by group-reads (λ (g : Group). g .day) group-some group-none
@@ -117,9 +118,9 @@ period-some : (p : Period) → goodPeriod p ≡ true → p .from .day ≡ 0 → 
 unfolding goodPeriod goodGroup
 period-some p g z = clash (goodPeriod p) g (rw z)
 
-pub period-none : goodPeriod (periodOf []) ≡ false
+pub period-none : OnlyWords (λ (w : List ℕ). goodPeriod (periodOf w))
 unfolding goodPeriod goodGroup periodOf
-period-none = refl
+period-none = record { empty = refl; sign = refl }
 
 pub period-tells : FieldTells periodOf goodPeriod (λ (p : Period). p .from .day) 0
 period-tells = tells-by period-reads (λ (p : Period). p .from .day) period-some period-none
@@ -129,9 +130,9 @@ time-some : (u : Time) → goodTime u ≡ true → u .hour ≡ 24 → ⊥
 unfolding goodTime
 time-some u g z = clash (goodTime u) g (rw z)
 
-pub time-none : goodTime (timeOf []) ≡ false
+pub time-none : OnlyWords (λ (w : List ℕ). goodTime (timeOf w))
 unfolding goodTime timeOf
-time-none = refl
+time-none = record { empty = refl; sign = refl }
 
 pub time-tells : FieldTells timeOf goodTime (λ (u : Time). u .hour) 24
 time-tells = tells-by time-reads (λ (u : Time). u .hour) time-some time-none
@@ -140,9 +141,9 @@ closing-some : (n : ℕ) → goodClosing n ≡ true → n ≡ 0 → ⊥
 unfolding closingWords
 closing-some n g z = clash (goodClosing n) g (rw z)
 
-closing-none : goodClosing (closingOf []) ≡ false
+closing-none : OnlyWords (λ (w : List ℕ). goodClosing (closingOf w))
 unfolding closingWords indexOf same
-closing-none = refl
+closing-none = record { empty = refl; sign = refl }
 
 pub closing-tells : FieldTells closingOf goodClosing (λ (n : ℕ). n) 0
 closing-tells = tells-by closing-reads (λ (n : ℕ). n) closing-some closing-none
@@ -152,16 +153,16 @@ coordinate-some : (a : Axis) → either (eqb 0 (a .plus)) (eqb 0 (a .minus)) ≡
 unfolding goodCoordinate
 coordinate-some a other c g z = clash (goodCoordinate a c) g (rw (z, other))
 
-latitude-none : goodCoordinate northSouth (coordinateOf northSouth []) ≡ false
+latitude-none : OnlyWords (λ (w : List ℕ). goodCoordinate northSouth (coordinateOf northSouth w))
 unfolding goodCoordinate coordinateOf
-latitude-none = refl
+latitude-none = record { empty = refl; sign = refl }
 
 pub latitude-tells : FieldTells (coordinateOf northSouth) (goodCoordinate northSouth) (λ (c : Coordinate). c .letter) 0
 latitude-tells = tells-by latitude-reads (λ (c : Coordinate). c .letter) (coordinate-some northSouth refl) latitude-none
 
-longitude-none : goodCoordinate eastWest (coordinateOf eastWest []) ≡ false
+longitude-none : OnlyWords (λ (w : List ℕ). goodCoordinate eastWest (coordinateOf eastWest w))
 unfolding goodCoordinate coordinateOf
-longitude-none = refl
+longitude-none = record { empty = refl; sign = refl }
 
 pub longitude-tells : FieldTells (coordinateOf eastWest) (goodCoordinate eastWest) (λ (c : Coordinate). c .letter) 0
 longitude-tells = tells-by longitude-reads (λ (c : Coordinate). c .letter) (coordinate-some eastWest refl) longitude-none
@@ -171,9 +172,9 @@ compass-some : (n : ℕ) → goodCompass n ≡ true → n ≡ 16 → ⊥
 unfolding compassWords
 compass-some n g z = clash (goodCompass n) g (rw z)
 
-compass-none : goodCompass (compassOf []) ≡ false
+compass-none : OnlyWords (λ (w : List ℕ). goodCompass (compassOf w))
 unfolding compassWords indexOf same
-compass-none = refl
+compass-none = record { empty = refl; sign = refl }
 
 pub compass-tells : FieldTells compassOf goodCompass (λ (n : ℕ). n) 16
 compass-tells = tells-by compass-reads (λ (n : ℕ). n) compass-some compass-none
@@ -182,9 +183,9 @@ speed-some : (s : Speed) → goodSpeed s ≡ true → s .unit ≡ 0 → ⊥
 unfolding goodSpeed unitWords
 speed-some s g z = clash (goodSpeed s) g (both-false-right (between 1 99 (s .value)) (rw z))
 
-speed-none : goodSpeed (speedOf []) ≡ false
+speed-none : OnlyWords (λ (w : List ℕ). goodSpeed (speedOf w))
 unfolding goodSpeed speedOf unitWords indexOf same figuresOf allOf worthAfter
-speed-none = refl
+speed-none = record { empty = refl; sign = refl }
 
 pub speed-tells : FieldTells speedOf goodSpeed (λ (s : Speed). s .unit) 0
 speed-tells = tells-by speed-reads (λ (s : Speed). s .unit) speed-some speed-none
@@ -193,18 +194,18 @@ intensity-some : (n : ℕ) → goodIntensity n ≡ true → n ≡ 0 → ⊥
 unfolding intensityWords
 intensity-some n g z = clash (goodIntensity n) g (rw z)
 
-intensity-none : goodIntensity (intensityOf []) ≡ false
+intensity-none : OnlyWords (λ (w : List ℕ). goodIntensity (intensityOf w))
 unfolding intensityWords indexOf same
-intensity-none = refl
+intensity-none = record { empty = refl; sign = refl }
 
 pub intensity-tells : FieldTells intensityOf goodIntensity (λ (n : ℕ). n) 0
 intensity-tells = tells-by intensity-reads (λ (n : ℕ). n) intensity-some intensity-none
 
 -- Readers whose test is not of the word alone: a period that cancels, the time of a forecast.
 
-pub cancelled-none : (l : FirstLine) (s : Sequence) → cancels l s (periodOf []) ≡ false
+pub cancelled-none : (l : FirstLine) (s : Sequence) → OnlyWords (λ (w : List ℕ). cancels l s (periodOf w))
 unfolding cancels
-cancelled-none l s = both-false-left _ period-none
+cancelled-none l s = record { empty = both-false-left _ (period-none .empty); sign = both-false-left _ (period-none .sign) }
 
-pub forecast-none : (end : Time) → forecastTime end (timeOf []) ≡ false
-forecast-none end = both-false-left _ time-none
+pub forecast-none : (end : Time) → OnlyWords (λ (w : List ℕ). forecastTime end (timeOf w))
+forecast-none end = record { empty = both-false-left _ (time-none .empty); sign = both-false-left _ (time-none .sign) }

@@ -5,6 +5,7 @@ use mathlib.Core.List.{List}
 use mathlib.Core.Path.{_≡_}
 use Prim.Native.Nat.{ℕ}
 use Rattle.lists.specs.Choice.{both}
+use Rattle.words.specs.Words.{wordFrom}
 use Rattle.groups.specs.declared.Time.{Time}
 use Rattle.groups.specs.Groups.{goodTime}
 use Rattle.motions.specs.Motions.{intensityOf, goodIntensity}
@@ -15,7 +16,7 @@ use Rattle.grammar.specs.States.State.{atEnding, atCompass, atForecast, atEnd}
 use Rattle.grammar.specs.States.{ToLevel}
 use Rattle.grammar.specs.Steps.{goesIf, kindOf, sameTime, endTime, step}
 use Rattle.reader_sections.specs.declared.steps.Step.{Step}
-use Rattle.reader_sections.specs.Steps.{Stands, Leads, wordFrom}
+use Rattle.reader_sections.specs.Steps.{Stands, Leads}
 
 pub record MovingSays (t : List ℕ) (from to : Step) (e : Ending) (f : Extent) : Type 0 where
   pub says : (l : ToLevel) → Leads (atCompass l) t from to (atEnd (reportOf l e f))

@@ -8,6 +8,7 @@ use lib.Dec.{leb}
 use lib.ListN.{length, take}
 use Rattle.lists.specs.Choice.{pick, both}
 use Rattle.lists.specs.Lists.{part}
+use Rattle.words.specs.Words.{wordFrom}
 use Rattle.names.specs.Names.{inName}
 use Rattle.message.specs.declared.Name.{Name}
 use Rattle.message.specs.Names.{noName}
@@ -17,7 +18,7 @@ use Rattle.grammar.specs.States.Move.{goes}
 use Rattle.grammar.specs.States.{State, Move}
 use Rattle.grammar.specs.Steps.{goesIf, grown, begun, goneOn, step}
 use Rattle.reader_sections.specs.declared.steps.Step.{Step}
-use Rattle.reader_sections.specs.Steps.{wordOn, wordFrom, Stands, Leads}
+use Rattle.reader_sections.specs.Steps.{wordOn, Stands, Leads}
 
 -- whether it is one of a name, with room for it behind so many bytes
 pub record BelongsSays (mountain : Bool) (limit used : ℕ) (t : List ℕ) (from : Step) (found : Bool) : Type 0 where

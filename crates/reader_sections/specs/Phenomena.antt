@@ -3,6 +3,7 @@
 use mathlib.Core.List.{List}
 use mathlib.Core.Path.{_≡_}
 use Prim.Native.Nat.{ℕ}
+use Rattle.words.specs.Words.{wordFrom}
 use Rattle.message.specs.declared.Name.{Name}
 use Rattle.message.specs.declared.Volcano.{Volcano}
 use Rattle.grammar.specs.Placing.{is}
@@ -10,7 +11,7 @@ use Rattle.grammar.specs.States.State.{atForm, atAsh, atEruption, atPosition, a
 use Rattle.grammar.specs.States.{ToArea, State}
 use Rattle.grammar.specs.Steps.{goesIf, weather, stepWeather, step}
 use Rattle.reader_sections.specs.declared.steps.Step.{Step}
-use Rattle.reader_sections.specs.Steps.{Stands, Leads, wordFrom}
+use Rattle.reader_sections.specs.Steps.{Stands, Leads}
 
 -- the rest of a WS's phenomenon, after its first word
 pub record WeatherFrom (first : ToArea → State) (t : List ℕ) (from to : Step) (phenomenon : ℕ) : Type 0 where

@@ -4,6 +4,7 @@ use mathlib.Core.Bool.{false}
 use mathlib.Core.List.{List}
 use mathlib.Core.Path.{_≡_}
 use Prim.Native.Nat.{ℕ}
+use Rattle.words.specs.Words.{wordFrom}
 use Rattle.groups.specs.declared.Time.{Time}
 use Rattle.levels.specs.declared.Level.{Level}
 use Rattle.levels.specs.Levels.{levelOf}
@@ -20,7 +21,7 @@ use Rattle.grammar.specs.States.State.{atForm, atObservation, atObserved, atPla
 use Rattle.grammar.specs.States.{ToArea, ToPhenomenon, ToLocation}
 use Rattle.grammar.specs.Steps.{kindOf, flightOf}
 use Rattle.reader_sections.specs.declared.steps.Step.{Step}
-use Rattle.reader_sections.specs.Steps.{Stands, Leads, Finishes, wordFrom}
+use Rattle.reader_sections.specs.Steps.{Stands, Leads, Finishes}
 
 -- after `OBS` or `FCST`
 pub record ObservedSays (word : ℕ) (t : List ℕ) (from to : Step) (o : Observation) : Type 0 where

@@ -10,7 +10,7 @@ use lib.Dec.{eqb}
 use lib.ListN.{length}
 use Rattle.lists.specs.Choice.{pick}
 use Rattle.lists.specs.Lists.{part, same}
-use Rattle.words.specs.Words.{spanOf}
+use Rattle.words.specs.Words.{spanOf, wordFrom}
 use Rattle.figures.specs.Codes.{FixedWord}
 use Rattle.message.specs.declared.Record.{Record}
 use Rattle.grammar.specs.Numbers.{numberOf}
@@ -22,11 +22,7 @@ use Rattle.grammar.specs.States.{State}
 use Rattle.grammar.specs.Steps.{goesIf, step}
 use Rattle.reader_sections.specs.declared.steps.Step.{Step}
 
--- the next word of the text from a place on
-abbrev pub wordFrom : List ℕ → ℕ → List ℕ
-wordFrom t at = part (spanOf t at .start) (spanOf t at .end) t
-
--- … where it begins and ends
+-- where the next word of the text from a place on begins and ends; the `=` is empty there
 pub record WordAt (t : List ℕ) (at start end : ℕ) : Type 0 where
   pub starts : start ≡ spanOf t at .start
   pub ends : end ≡ spanOf t at .end
@@ -41,7 +37,7 @@ runOn s t p = pick (eqb (p .number) 0) (runAt s t (p .place)) (refused (p .numbe
 abbrev pub concluded : ℕ → ℕ → Record → Ran
 concluded number place r = pick (eqb number 0) (accepted r) (refused number place)
 
--- the word at a step: that from its place to its end
+-- what the text has of the word at a step: from its place to its end
 abbrev pub wordOn : List ℕ → Step → List ℕ
 wordOn t p = part (p .place) (p .end) t
 
@@ -53,7 +49,7 @@ pub record Leads (s : State) (t : List ℕ) (from to : Step) (next : State) : Ty
 pub record Finishes (s : State) (t : List ℕ) (from to : Step) (r : Record) : Type 0 where
   pub says : runOn s t from ≡ concluded (to .number) (to .place) r
 
--- a step stands before a word; a refused one before an empty word
+-- a step stands before a word, which is empty in the text where it is the `=`; a refused one before an empty word
 pub record Stands (t : List ℕ) (p : Step) : Type 0 where
   pub ordered : p .place ≤ p .end
   pub within : p .end ≤ length t

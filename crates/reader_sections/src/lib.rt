@@ -1,6 +1,8 @@
 // The sections of the reader: the words of a text to a reply, by recursive descent. Each section is a private module and reads in the order of the
 // paper's sentence, from one step (`steps`) to another; a refused step stays, so that a section needs no way out of its own.
 ghost use mathlib.Core.Path.{_≡_};
+ghost use Rattle.words.specs.Words.{lengthAt};
+ghost use Rattle.grammar.specs.Bulletins.{refusal as refusalOf};
 ghost use Rattle.grammar.specs.Reads.{replyOf};
 ghost use Rattle.grammar.specs.Runs.{runAt};
 ghost use Rattle.grammar.specs.States.State.{atDesignator};
@@ -37,7 +39,7 @@ use words::length_at;
 // The reply to the text before the first `=`: its record, or 4 to 12 at a word. What is refused up to the area is answered at once, for a bad
 // bulletin mostly is.
 pub fn read_text(text: &[u8]) -> Reply
-    ensures { λ r. ⌜ r ≡ replyOf (runAt atDesignator (now (text .entry)) 0) ⌝ }
+    ensures { λ r. ⌜ r ≡ replyOf (now (text .entry)) (runAt atDesignator (now (text .entry)) 0) ⌝ }
 {
     let opening = read_opening(text, step_at(text, 0));
     let reached = opening.step;

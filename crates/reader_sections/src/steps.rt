@@ -101,7 +101,7 @@ pub(crate) fn perhaps_at(text: &[u8], from: Step, wanted: u64) -> PerhapsRead
 
 // A fixed word of more than seven bytes, which has no code.
 pub(crate) fn long_at(text: &[u8], from: Step, wanted: &[u8], refusal: u8) -> Step
-    requires { ⌜ (Stands (now text) from) × ((0 < length (now wanted)) × (0 < refusal)) ⌝ }
+    requires { ⌜ (Stands (now text) from) × ((1 < length (now wanted)) × (0 < refusal)) ⌝ }
     ensures { λ r. ⌜ TakesLong (now (wanted .entry)) refusal (now (text .entry)) from r ⌝ }
 {
     let start = from.place;

@@ -67,10 +67,10 @@ pub record Split (t : List ℕ) (p : ℕ) : Type 0 where
 word-is : {p q : ℕ} {v w : List ℕ} → p ≡ q → v ≡ w → _≡_ {A = Word} (record { place = p; bytes = v }) (record { place = q; bytes = w })
 word-is e f = λ i. record { place = e i; bytes = f i }
 
-next-is : (t : List ℕ) (p : ℕ) → spanOf t p .start < length t → wordsAt t p ≡ record { place = spanOf t p .start; bytes = wordFrom t p } ∷ wordsAt t (spanOf t p .end)
+pub next-is : (t : List ℕ) (p : ℕ) → spanOf t p .start < length t → wordsAt t p ≡ record { place = spanOf t p .start; bytes = wordFrom t p } ∷ wordsAt t (spanOf t p .end)
 next-is t p h = rw (from-text t p h) (span-next t p (spanOf t p) refl h .words)
 
-last-is : (t : List ℕ) (p : ℕ) → p ≤ length t → length t ≤ spanOf t p .start → wordsAt t p ≡ record { place = spanOf t p .start; bytes = wordFrom t p } ∷ []
+pub last-is : (t : List ℕ) (p : ℕ) → p ≤ length t → length t ≤ spanOf t p .start → wordsAt t p ≡ record { place = spanOf t p .start; bytes = wordFrom t p } ∷ []
 last-is t p k h =
     let l : Last t p (spanOf t p) = span-last t p (spanOf t p) refl k h in
     l .words ∙ ap (λ (w : Word). w ∷ []) (word-is (sym (l .starts)) (sym (from-equals t p h)))

@@ -63,7 +63,7 @@ startAt t p = indexFrom solid p t
 abbrev pub stopAt : List ℕ → ℕ → ℕ
 stopAt t p = indexFrom blank (startAt t p) t
 
-words-skip : (t : List ℕ) (p : ℕ) → wordsAt t p ≡ wordsAt t (startAt t p)
+pub words-skip : (t : List ℕ) (p : ℕ) → wordsAt t p ≡ wordsAt t (startAt t p)
 words-skip t p = scan-skip p (drop p t) ∙ ap (λ (s : List ℕ). scan (startAt t p) [] s) (drop-drop (indexOf solid (drop p t)) p t)
 
 -- from a place where a word of k bytes begins, k not 0

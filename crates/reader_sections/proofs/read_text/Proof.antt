@@ -3,6 +3,7 @@ use borrow.Author.Needs.{needs}
 use mathlib.Core.List.{List}
 use mathlib.Core.Path.{_≡_, refl, sym, _∙_}
 use Prim.Native.Nat.{ℕ}
+use Rattle.words.specs.Words.{lengthAt}
 use Rattle.message.specs.declared.Area.{Area}
 use Rattle.message.specs.declared.FirstLine.{FirstLine}
 use Rattle.message.specs.declared.Form.{Form}
@@ -23,14 +24,14 @@ use Rattle.reader_sections.proofs.read_text.Statement.{statement}
 use Rattle.reader_sections.proofs.read_text.Tie as tie
 
 module _ {t : List ℕ} {from to : Step} {h : Heading} {l : FirstLine} {a : Area} (b : Before t 0 from) (opening : OpeningSays t from to h l a) where
-  early : {r : Reply} → (to .number ≡ 0 → ⊥) → r ≡ refusal (to .number) (to .place) → r ≡ replyOf (runAt atDesignator t 0)
+  early : {r : Reply} → (to .number ≡ 0 → ⊥) → r ≡ refusal (to .number) (to .place) (lengthAt t (to .place)) → r ≡ replyOf t (runAt atDesignator t 0)
   early z e = e ∙ sym (replied b (opening .says) z)
 
   module _ {last : Step} {form : Form} {report : Report} (body : BodySays (h .designator .kind) l (a .closing) t to last form report) where
-    late : {r : Reply} → (last .number ≡ 0 → ⊥) → r ≡ refusal (last .number) (last .place) → r ≡ replyOf (runAt atDesignator t 0)
+    late : {r : Reply} → (last .number ≡ 0 → ⊥) → r ≡ refusal (last .number) (last .place) (lengthAt t (last .place)) → r ≡ replyOf t (runAt atDesignator t 0)
     late z e = e ∙ sym (answered b (at-last (opening .says) (body .says (record { heading = h; line = l; area = a }) refl refl refl)) z)
 
-    read : last .number ≡ 0 → acceptance (formed (record { heading = h; line = l; area = a }) form report) ≡ replyOf (runAt atDesignator t 0)
+    read : last .number ≡ 0 → acceptance (formed (record { heading = h; line = l; area = a }) form report) ≡ replyOf t (runAt atDesignator t 0)
     read z = sym (accepts b (at-last (opening .says) (body .says (record { heading = h; line = l; area = a }) refl refl refl)) z)
 
 returns : tie.Need-returns

@@ -6,6 +6,7 @@ use mathlib.Core.Path.{_≡_}
 use Prim.Native.Nat.{ℕ, _<_}
 use lib.Dec.{eqb, lit<}
 use Rattle.lists.specs.Lists.{part}
+use Rattle.words.specs.Words.{wordFrom}
 use Rattle.figures.specs.Codes.{codeOf}
 use Rattle.vocabulary.specs.Codes.{code-entire, code-wi}
 use Rattle.vocabulary.proofs.FixedWords.{fixed-entire, fixed-wi}
@@ -17,14 +18,14 @@ use Rattle.grammar.specs.States.Placing.{atLocation, atLatitudeOf, atLongitudeO
 use Rattle.grammar.specs.States.State.{atPlace}
 use Rattle.reader_sections.specs.declared.steps.Step.{Step}
 use Rattle.reader_sections.specs.Locations.{SideSays, LocatedSays, LocatedInSays}
-use Rattle.reader_sections.specs.Steps.{wordOn, wordFrom, Stands, Before, Judged}
+use Rattle.reader_sections.specs.Steps.{wordOn, Stands, Before, Judged}
 use Rattle.reader_sections.proofs.Leads.{then, goes-code, code-going, code-yes, code-no, takes-fixed}
 use Rattle.reader_sections.proofs.Sides.{on-step, fixed-on, side-going, side-no, side-on}
 use Rattle.reader_sections.proofs.location.read_location.Statement.{statement}
 use Rattle.reader_sections.proofs.location.read_location.Tie as tie
 
 -- the first word is no letter of an axis
-not-of : {t : List ℕ} {from : Step} {code n : ℕ} → Stands t from → code ≡ codeOf (wordOn t from) → (a : Axis) → 0 < a .plus → 0 < a .minus
+not-of : {t : List ℕ} {from : Step} {code n : ℕ} → Stands t from → code ≡ codeOf (wordOn t from) → (a : Axis) → 61 < a .plus → 61 < a .minus
     → SideSays code (a .plus) (a .minus) n → n ≡ 0 → from .number ≡ 0 → sideWord a (wordFrom t (from .place)) ≡ false
 not-of f e a p m side none z = side-no f e a side p m z none
 
