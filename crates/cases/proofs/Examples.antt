@@ -7,7 +7,7 @@ use Rattle.lists.specs.Base.{worthAfter, places}
 use Rattle.lists.specs.Lists.{indexOf, allOf, same}
 use Rattle.words.specs.Bytes.{allowed}
 use Rattle.words.specs.Check.{checkOf}
-use Rattle.words.specs.Words.{scan, line}
+use Rattle.words.specs.Words.{scan, line, spanOf, lengthAt}
 use Rattle.figures.specs.Figures.{figuresOf}
 use Rattle.figures.specs.Letters.{lettersOf, goodLetters}
 use Rattle.coordinates.specs.Coordinates.{coordinateOf, goodCoordinate, emptyCoordinate, spellCoordinate, signedOf}
@@ -35,56 +35,56 @@ use Rattle.grammar.specs.Steps.{cancels, stormWords, stepForm, stepLevel, stepE
 -- the reader and the canonical text with every definition open that they come to
 opened : List ℕ → Reply
 unfolding
-    readOf checkOf runAt run scan step indexOf allOf same worthAfter allowed figuresOf lettersOf goodLetters coordinateOf goodCoordinate samePoint signedOf pointed groupOf goodGroup periodOf goodPeriod timeOf goodTime typeWords designatorOf goodDesignator correctionOf goodCorrection officeOf sequenceOf goodSequence closingWords nameWord levelOf goodLevelWord compassWords intensityWords unitWords speedOf goodSpeed stormWords cancels namesItself stepForm stepLevel stepEnding locating placeStep places textOf headingWords lineWords bodyWords areaWords formWords reportWords phenomenonWords observationWords extentWords levelWords endingWords spellDesignator spellGroup spellPeriod spellSequence spellTime spellLevelWord spellSpeed spellCoordinate boundWords joined dashed emptySide emptyCoordinate emptyName phenomena testTexts pieces line
+    readOf checkOf runAt run scan spanOf lengthAt step indexOf allOf same worthAfter allowed figuresOf lettersOf goodLetters coordinateOf goodCoordinate samePoint signedOf pointed groupOf goodGroup periodOf goodPeriod timeOf goodTime typeWords designatorOf goodDesignator correctionOf goodCorrection officeOf sequenceOf goodSequence closingWords nameWord levelOf goodLevelWord compassWords intensityWords unitWords speedOf goodSpeed stormWords cancels namesItself stepForm stepLevel stepEnding locating placeStep places textOf headingWords lineWords bodyWords areaWords formWords reportWords phenomenonWords observationWords extentWords levelWords endingWords spellDesignator spellGroup spellPeriod spellSequence spellTime spellLevelWord spellSpeed spellCoordinate boundWords joined dashed emptySide emptyCoordinate emptyName phenomena testTexts pieces line
 opened b = readOf b
 
 pub thunderstorms-read : ReadsBack thunderstorms
 unfolding opened
-thunderstorms-read = record { number = refl; place = refl; text = refl }
+thunderstorms-read = record { number = refl; place = refl; length = refl; text = refl }
 
 pub duststorms-read : ReadsBack duststorms
 unfolding opened
-duststorms-read = record { number = refl; place = refl; text = refl }
+duststorms-read = record { number = refl; place = refl; length = refl; text = refl }
 
 pub sandstorms-read : ReadsBack sandstorms
 unfolding opened
-sandstorms-read = record { number = refl; place = refl; text = refl }
+sandstorms-read = record { number = refl; place = refl; length = refl; text = refl }
 
 pub turbulence-read : ReadsBack turbulence
 unfolding opened
-turbulence-read = record { number = refl; place = refl; text = refl }
+turbulence-read = record { number = refl; place = refl; length = refl; text = refl }
 
 pub mountain-waves-read : ReadsBack mountainWaves
 unfolding opened
-mountain-waves-read = record { number = refl; place = refl; text = refl }
+mountain-waves-read = record { number = refl; place = refl; length = refl; text = refl }
 
 pub icing-read : ReadsBack icing
 unfolding opened
-icing-read = record { number = refl; place = refl; text = refl }
+icing-read = record { number = refl; place = refl; length = refl; text = refl }
 
 pub radioactive-cloud-read : ReadsBack radioactiveCloud
 unfolding opened
-radioactive-cloud-read = record { number = refl; place = refl; text = refl }
+radioactive-cloud-read = record { number = refl; place = refl; length = refl; text = refl }
 
 pub cancelled-read : ReadsBack cancelled
 unfolding opened
-cancelled-read = record { number = refl; place = refl; text = refl }
+cancelled-read = record { number = refl; place = refl; length = refl; text = refl }
 
 pub ash-cancelled-read : ReadsBack ashCancelled
 unfolding opened
-ash-cancelled-read = record { number = refl; place = refl; text = refl }
+ash-cancelled-read = record { number = refl; place = refl; length = refl; text = refl }
 
 -- 7 at `SAKURAJIMA-`: a name word ends with a letter
-pub sakurajima-refused : readOf sakurajima ≡ refusal 7 95
+pub sakurajima-refused : readOf sakurajima ≡ refusal 7 95 11
 unfolding opened
 sakurajima-refused = refl
 
 -- 9 at the second `S0715`: a `-` is expected
-pub kelut-refused : readOf kelut ≡ refusal 9 205
+pub kelut-refused : readOf kelut ≡ refusal 9 205 5
 unfolding opened
 kelut-refused = refl
 
 -- 11 at `NC`: only a WS has a forecast
-pub kelut-joined-refused : readOf kelutJoined ≡ refusal 11 230
+pub kelut-joined-refused : readOf kelutJoined ≡ refusal 11 230 2
 unfolding opened
 kelut-joined-refused = refl

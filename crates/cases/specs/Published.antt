@@ -11,6 +11,7 @@ use Rattle.grammar.specs.Reads.{readOf}
 pub record ReadsBack (b : List ℕ) : Type 0 where
   pub number : readOf b .number ≡ 0
   pub place : readOf b .place ≡ 0
+  pub length : readOf b .length ≡ 0
   pub text : textOf (readOf b .message) ≡ b
 
 abbrev pub thunderstorms : List ℕ

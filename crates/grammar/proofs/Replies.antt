@@ -34,6 +34,7 @@ use Rattle.grammar.proofs.FirstDead.{breaks-refused, there-refused}
 use Rattle.grammar.proofs.Invariant.{Ok}
 use Rattle.grammar.proofs.Marks.{accepted-good, accepted-words}
 use Rattle.grammar.proofs.Moves.{Fine, Next}
+use Rattle.grammar.proofs.NumberLaws.{Range, number-range}
 use Rattle.grammar.proofs.RunLaws.{Breaks, Comes, words-come, run-walks, walk-runs}
 use Rattle.grammar.proofs.RunLaws.Comes.{breaks}
 
@@ -73,7 +74,9 @@ module _ (sound : (s : State) (w : List ℕ) → Ok s → Fine s w (step s w)) w
       ran-replied : (b : List ℕ) → checkOf b .number ≡ 0 → (x : Ran) → runAt atDesignator (textIn b) 0 ≡ x → Comes atDesignator (wordsAt (textIn b) 0) x
           → Replied b (replyOf (textIn b) x)
       ran-replied b c (accepted r) e k = readAs c (text-accepted (textIn b) r e .0) (text-accepted (textIn b) r e .1)
-      ran-replied b c (refused n p) e (breaks k) = refusedAs c (text-refused (textIn b) k)
+      ran-replied b c (refused n p) e (breaks k) =
+          let range : Range n = rw (k .numbered) (number-range (k .state)) in
+          refusedAs c (range .low) (range .high) (text-refused (textIn b) k)
 
       -- where the words can be read, the run is refused exactly there
       pub refused-exactly : (t : List ℕ) → allOf allowed t ≡ true → allOf unequal t ≡ true → (n p : ℕ)
@@ -103,5 +106,5 @@ module _ (sound : (s : State) (w : List ℕ) → Ok s → Fine s w (step s w)) w
       unfolding readOf runAt
       reply-only b q (unreadable k) = rw (ne-eqb (checkOf b .number) 0 (λ e. omega arith))
       reply-only b q (readAs {r} c g w) = rw (eq-eqb (checkOf b .number) 0 c, text-accepts (textIn b) r g w)
-      reply-only b q (refusedAs {number} {place} {long} c r) =
+      reply-only b q (refusedAs {number} {place} {long} c low high r) =
           rw (eq-eqb (checkOf b .number) 0 c, there-refused sound next forth (wordsAt (textIn b) 0) number place long r, ← (refused-long (textIn b) number place long r))

@@ -31,6 +31,7 @@ functions =
       words-is-digit = words-laws.is-digit-determined;
       words-check = words-laws.check-determined;
       words-word-at = words-laws.word-at-determined;
+      words-length-at = words-laws.length-at-determined;
       figures-letters = figures-laws.letters-determined;
       figures-figures = figures-laws.figures-determined;
       figures-two = figures-laws.two-determined;

@@ -1,6 +1,5 @@
 -- The word that the reader refuses is judged as the paper says: what crate grammar has proved of words, said of the reader's replies.
 use mathlib.Core.List.{List, _∷_}
-use mathlib.Core.Logic._⊎_.{inl, inr}
 use mathlib.Core.Path.{_≡_}
 use Prim.Native.Nat.{ℕ, _≤_}
 use native.Mathlib.Omega.{arith}
@@ -8,7 +7,7 @@ use Rattle.words.specs.Check.{checkOf}
 use Rattle.words.specs.Words.{Word, wordsAt}
 use Rattle.words.proofs.Refusals.{check-small}
 use Rattle.grammar.specs.Bulletins.{textIn}
-use Rattle.grammar.specs.Judged.{bytesOf, JudgedAs, Numbered, RefusedAt}
+use Rattle.grammar.specs.Judged.{bytesOf, JudgedAs, RefusedAt}
 use Rattle.grammar.specs.Parts.{Marked, marked}
 use Rattle.grammar.specs.Replies.{Replied}
 use Rattle.grammar.specs.Replies.Replied.{unreadable, readAs, refusedAs}
@@ -37,14 +36,10 @@ greatest ws part n =
           grammar.none-later ws part other c (has .0) (has .1);
     }
 
-numbered-required : (ws : List (List ℕ)) (number : ℕ) → 4 ≤ number → Numbered ws number → NextRequired ws number
-numbered-required ws number h (inl j) = next-required ws number j
-numbered-required ws number h (inr w) = absurd (let three : number ≡ 3 = w .1 in omega arith)
+judged : (ws : List Word) (number place long : ℕ) (r : RefusedAt ws number place long) → Judgement (bytesOf (r .before)) number
+judged ws number place long r = record { twelve = grammar.theorem-d-twelve ws number place long r; required = next-required (bytesOf (r .before)) number (r .judged) }
 
-judged : (ws : List Word) (number place : ℕ) → 4 ≤ number → (r : RefusedAt ws number place) → Judgement (bytesOf (r .before)) number
-judged ws number place h r = record { twelve = grammar.theorem-d-twelve ws number place r; required = numbered-required (bytesOf (r .before)) number h (r .numbered) }
-
-refused : (b : List ℕ) (p : Reply) → Replied b p → 4 ≤ p .number → RefusedAt (wordsAt (textIn b) 0) (p .number) (p .place)
+refused : (b : List ℕ) (p : Reply) → Replied b p → 4 ≤ p .number → RefusedAt (wordsAt (textIn b) 0) (p .number) (p .place) (p .length)
 refused b p (unreadable k) h = absurd (let small : checkOf b .number ≤ 3 = check-small b .number in omega arith)
 refused b p (readAs c g w) h = absurd (omega arith)
 refused b p (refusedAs c low high r) h = r
@@ -55,7 +50,7 @@ judgements =
       judged = judged;
       judged-reading =
           λ b p m h.
-          let r : RefusedAt (wordsAt (textIn b) 0) (p .number) (p .place) = refused b p (demand-1 .fixed b p .0 m) h in
-          (r, judged (wordsAt (textIn b) 0) (p .number) (p .place) h r);
+          let r : RefusedAt (wordsAt (textIn b) 0) (p .number) (p .place) (p .length) = refused b p (demand-1 .fixed b p .0 m) h in
+          (r, judged (wordsAt (textIn b) 0) (p .number) (p .place) (p .length) r);
       greatest-required = λ ws part. (next-required ws part, greatest ws part);
     }

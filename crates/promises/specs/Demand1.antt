@@ -30,8 +30,8 @@ pub record Demand1 : Type 0 where
   pub one-posting : (b x y : Board) (clock : ℕ) (r : Record) (m n : ℕ) → MayPost b clock r m x → MayPost b clock r n y → (m ≡ n) × (x ≡ y)
   pub one-listing : (b : Board) (time : ℕ) (buffer x y : List ℕ) (m n j k : ℕ) → MayList b time buffer m j x → MayList b time buffer n k y
       → (m ≡ n) × (j ≡ k) × (x ≡ y)
-  -- "A bad bulletin is refused by a number and the place our paper fixes for it": `Replied` says them, 4 to 12 without any machine, 1 to 3 as
-  -- `checkOf` finds them
+  -- "A bad bulletin is refused by a number and the place our paper fixes for it"; 02, CR 4: "Every reader refusal shall also give a length":
+  -- `Replied` says them, 4 to 12 without any machine, 1 to 3 as `checkOf` finds them
   pub fixed : (bulletin : List ℕ) (p : Reply) → MayRead bulletin p ↔ Replied bulletin p
   -- 13, 14 or the whole text; and 36 exactly for a board that is not good (16, 17 and the rest are demand 3's)
   pub written : (r : Record) (buffer after : List ℕ) (w : Written) → MayWrite r buffer w after → Outcome r buffer (w .number) (w .count) after

@@ -16,6 +16,8 @@ use Rattle.words.proofs.check.Kinds as words-check-kinds
 use Rattle.words.proofs.check.Reads as words-check-reads
 use Rattle.words.proofs.word_at.Kinds as words-word-at-kinds
 use Rattle.words.proofs.word_at.Reads as words-word-at-reads
+use Rattle.words.proofs.length_at.Kinds as words-length-at-kinds
+use Rattle.words.proofs.length_at.Reads as words-length-at-reads
 use Rattle.figures.proofs.letters.Kinds as figures-letters-kinds
 use Rattle.figures.proofs.letters.Reads as figures-letters-reads
 use Rattle.figures.proofs.figures.Kinds as figures-figures-kinds
@@ -174,6 +176,7 @@ pub record Functions : Type 0 where
   pub words-is-digit : Determines 0 words-is-digit-kinds.ps words-is-digit-kinds.r words-is-digit-reads.Learnt
   pub words-check : Determines 1 words-check-kinds.ps words-check-kinds.r words-check-reads.Learnt
   pub words-word-at : Determines 1 words-word-at-kinds.ps words-word-at-kinds.r words-word-at-reads.Learnt
+  pub words-length-at : Determines 1 words-length-at-kinds.ps words-length-at-kinds.r words-length-at-reads.Learnt
   -- figures
   pub figures-letters : Determines 1 figures-letters-kinds.ps figures-letters-kinds.r figures-letters-reads.Learnt
   pub figures-figures : Determines 1 figures-figures-kinds.ps figures-figures-kinds.r figures-figures-reads.Learnt

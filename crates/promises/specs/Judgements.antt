@@ -6,7 +6,7 @@ use mathlib.Core.List.{List, [], _∷_, _++_, map, List·Memᴰ}
 use mathlib.Core.Logic.{_↔_}
 use mathlib.Core.Path.{_≡_}
 use Prim.Native.Nat.{ℕ, _≤_}
-use Rattle.words.specs.Words.{Word, wordsAt}
+use Rattle.words.specs.Words.{Word, equalsSign, wordsAt}
 use Rattle.message.specs.Records.{good}
 use Rattle.message.specs.declared.Record.{Record}
 use Rattle.grammar.specs.Bulletins.{textIn}
@@ -31,15 +31,15 @@ pub record NextRequired (ws : List (List ℕ)) (part : ℕ) : Type 0 where
 -- how a word is judged that is refused after these words
 pub record Judgement (before : List (List ℕ)) (number : ℕ) : Type 0 where
   -- "12 | a word where `=` would also be accepted": these words, with the `=`, are a whole message
-  pub twelve : (number ≡ 12) ↔ Whole (before ++ ([] ∷ []))
+  pub twelve : (number ≡ 12) ↔ Whole (before ++ (equalsSign ∷ []))
   -- "it is judged as the next required part"
   pub required : NextRequired before number
 
 pub record Judgements : Type 0 where
-  -- every word that is refused by 4 to 12 (3 is for "something after" the `=`), …
-  pub judged : (ws : List Word) (number place : ℕ) → 4 ≤ number → (r : RefusedAt ws number place) → Judgement (bytesOf (r .before)) number
+  -- every word that is refused by 4 to 12, …
+  pub judged : (ws : List Word) (number place long : ℕ) (r : RefusedAt ws number place long) → Judgement (bytesOf (r .before)) number
   -- … and so the word at which the reader refuses a bulletin by one of them
   pub judged-reading : (bulletin : List ℕ) (p : Reply) → MayRead bulletin p → 4 ≤ p .number
-      → (r : RefusedAt (wordsAt (textIn bulletin) 0) (p .number) (p .place)) × Judgement (bytesOf (r .before)) (p .number)
+      → (r : RefusedAt (wordsAt (textIn bulletin) 0) (p .number) (p .place) (p .length)) × Judgement (bytesOf (r .before)) (p .number)
   -- the greatest part that may come next is the next required part, and no other part is
   pub greatest-required : (ws : List (List ℕ)) (part : ℕ) → JudgedAs ws part ↔ NextRequired ws part

@@ -76,17 +76,17 @@ pub record Starred : Type 0 where
   pub sample-written : textOf sample ≡ sampleText
   -- "`E180` for E114: read. `E181`: 9 at 100."
   pub east-180 : readOf (reporting "E OF E180 SFC/FL100 MOV E 20KT WKN=") ≡ acceptance (eastOf E180)
-  pub east-181 : readOf (reporting "E OF E181 SFC/FL100 MOV E 20KT WKN=") ≡ refusal 9 100
+  pub east-181 : readOf (reporting "E OF E181 SFC/FL100 MOV E 20KT WKN=") ≡ refusal 9 100 4
   -- "`FCST` for WKN: 11 at 126. ` NC` after WKN: 12 at 130. No `=`: 3 at 129."
-  pub forecast-for-intensity : readOf (reporting "E OF E114 SFC/FL100 MOV E 20KT FCST=") ≡ refusal 11 126
-  pub intensity-twice : readOf (reporting "E OF E114 SFC/FL100 MOV E 20KT WKN NC=") ≡ refusal 12 130
-  pub no-sign : readOf (reporting "E OF E114 SFC/FL100 MOV E 20KT WKN") ≡ refusal 3 129
+  pub forecast-for-intensity : readOf (reporting "E OF E114 SFC/FL100 MOV E 20KT FCST=") ≡ refusal 11 126 4
+  pub intensity-twice : readOf (reporting "E OF E114 SFC/FL100 MOV E 20KT WKN NC=") ≡ refusal 12 130 2
+  pub no-sign : readOf (reporting "E OF E114 SFC/FL100 MOV E 20KT WKN") ≡ refusal 3 129 0
   -- "N00 and S0000 both have value 0. S90 is -5,400; N9001 is refused."
   pub north-0 : Valued northSouth "N00" (pos 0)
   pub south-0 : Valued northSouth "S0000" (pos 0)
   pub south-90 : Valued northSouth "S90" (negℤ (pos 5400))
   pub north-90-01 : coordinateOf northSouth (bytes "N9001") ≡ noCoordinate
-  pub north-90-01-read : readOf (reporting "N OF N9001 SFC/FL100 MOV E 20KT WKN=") ≡ refusal 9 100
+  pub north-90-01-read : readOf (reporting "N OF N9001 SFC/FL100 MOV E 20KT WKN=") ≡ refusal 9 100 5
   -- "Clock 12,648,030 (2024-01-18 0830Z): start 12,648,030, end 12,648,270."
   pub the-18th : minuteOf 2024 1 18 8 30 ≡ 12648030
   pub start : IsStart 12648030 (sample .line .valid .from) 12648030
