@@ -11,11 +11,11 @@ use borrow.Author.Tests.{eq-eqb, ne-eqb, eqb-true, eqb-false}
 use Rattle.lists.specs.Lists.{allOf}
 use Rattle.lists.proofs.Choice.{by}
 use Rattle.words.specs.Check.{checkOf}
-use Rattle.words.specs.Bytes.{allowed}
+use Rattle.words.specs.Bytes.{allowed, unequal}
 use Rattle.words.specs.Words.{wordsAt, wordsIn, wordFrom, lengthAt}
 use Rattle.words.proofs.Lengths.{word-found}
 use Rattle.words.proofs.Refusals.{Readable, check-readable}
-use Rattle.words.proofs.Words.{unequal, Plains, words-plain}
+use Rattle.words.proofs.Words.{Plains, words-plain}
 use Rattle.message.specs.Records.{good}
 use Rattle.message.specs.declared.Record.{Record}
 use Rattle.grammar.specs.Judged.{messageWords, RefusedAt}
@@ -42,7 +42,7 @@ use Rattle.grammar.proofs.RunLaws.Comes.{breaks}
 refused-long : (t : List ℕ) (n p long : ℕ) → RefusedAt (wordsAt t 0) n p long → long ≡ lengthAt t p
 unfolding lengthAt
 refused-long t n p long r =
-    sym (r .as-long) ∙ ap (λ (w : List ℕ). length w) (sym (word-found t 0 zero-le (r .before) (r .word) (r .rest) (r .split)) ∙ ap (wordFrom t) (r .there))
+    sym (r .as-long) ∙ ap (λ (w : List ℕ). length w) (sym (word-found t 0 zero-le (r .before) (r .word) (r .rest) (r .split) .word) ∙ ap (wordFrom t) (r .there))
 
 module _ (sound : (s : State) (w : List ℕ) → Ok s → Fine s w (step s w)) where
   text-comes : (t : List ℕ) → allOf allowed t ≡ true → allOf unequal t ≡ true → Comes atDesignator (wordsAt t 0) (runAt atDesignator t 0)

@@ -1,6 +1,6 @@
 -- From words to bytes: a good record's text is read as that record and is canonical, and a canonical text that is read is the text of its
 -- record. What is accepted is handed over: the words of a good record, and no others.
-use mathlib.Core.Bool.{Bool, true, not}
+use mathlib.Core.Bool.{Bool, true}
 use mathlib.Core.List.{List, [], _∷_, _++_, append-assoc, append-cancel-right}
 use mathlib.Core.Path.{_≡_, refl, ap, sym, _∙_}
 use Prim.Native.Nat.{ℕ, suc, _+_, _≤_}
@@ -13,7 +13,7 @@ use Rattle.lists.specs.Choice.{both}
 use Rattle.lists.specs.Lists.{allOf}
 use Rattle.lists.proofs.Choice.{by, clash, both-left, both-right, either-cases}
 use Rattle.lists.proofs.Lists.{all-append, all-weaken}
-use Rattle.words.specs.Bytes.{solid, equals, allowed, plain}
+use Rattle.words.specs.Bytes.{solid, unequal, allowed, plain}
 use Rattle.words.specs.Check.{checkOf}
 use Rattle.words.specs.Words.{Word, equalsSign, wordsIn, solidWord, plainWord, line}
 use Rattle.words.proofs.Refusals.{check-readable, check-bare}
@@ -170,8 +170,8 @@ module _
         let long : length (textOf r) ≡ length (textBefore r) + 1 = ap length (text-split r) ∙ length-append (textBefore r) (61 ∷ []) in
         rw (text-split r)
         (check-bare (textBefore r)
-        (before-all allowed refl refl refl (λ x p. both-left (allowed x) (both (solid x) (not (equals x))) p) r g)
-        (before-all (λ (x : ℕ). not (equals x)) refl refl refl (λ x p. both-right (solid x) (not (equals x)) (both-right (allowed x) (both (solid x) (not (equals x))) p)) r g)
+        (before-all allowed refl refl refl (λ x p. both-left (allowed x) (both (solid x) (unequal x)) p) r g)
+        (before-all unequal refl refl refl (λ x p. both-right (solid x) (unequal x) (both-right (allowed x) (both (solid x) (unequal x)) p)) r g)
         (omega arith))
 
     text-in : (r : Record) → good r ≡ true → length (textOf r) ≤ 2048 → textIn (textOf r) ≡ textBefore r

@@ -8,9 +8,8 @@ use Prim.Native.Nat.{ℕ, suc, _≤_}
 use lib.ListN.{length, take}
 use borrow.Author.Tests.{le-ltb}
 use Rattle.lists.specs.Lists.{allOf}
-use Rattle.words.specs.Bytes.{allowed}
+use Rattle.words.specs.Bytes.{allowed, unequal}
 use Rattle.words.specs.Words.{Word, equalsSign, wordsAt, lengthAt}
-use Rattle.words.proofs.Words.{unequal}
 use Rattle.message.specs.Records.{good}
 use Rattle.message.specs.Words.{wordsOf, textOf}
 use Rattle.message.specs.declared.Record.{Record}

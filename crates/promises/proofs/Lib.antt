@@ -9,6 +9,7 @@ pub mod Listing
 pub mod Histories
 pub mod Contracts
 pub mod JudgementLaws
+pub mod LengthLaws
 pub mod CoordinateLaws
 pub mod StarredLaws
 pub mod FraudLaws

@@ -6,6 +6,7 @@ pub mod Order
 pub mod InForce
 pub mod Demand1
 pub mod Judgements
+pub mod Lengths
 pub mod Demand2
 pub mod Demand3
 pub mod AnyBoard

@@ -1,20 +1,20 @@
 -- The refusal table, numbers 1 to 3, one law to a line: what `checkOf` is where the facts of that line hold.
-use mathlib.Core.Bool.{true, not}
+use mathlib.Core.Bool.{true, false}
 use mathlib.Core.List.{List, [], _∷_, _++_}
 use mathlib.Core.Path.{_≡_, refl, sym, _∙_}
-use Prim.Native.Nat.{ℕ, suc, _+_, _≤_, _<_, zero-le}
+use Prim.Native.Nat.{ℕ, suc, _+_, _-_, _≤_, _<_, zero-le}
 use native.Mathlib.Nat.{add-zero}
 use native.Mathlib.Numerals.{add-one}
 use native.Mathlib.Omega.{arith}
 use lib.Dec.{ltb, eqb, lit≤}
 use lib.ListN.{length, take, drop, getD, length-append, length-drop}
-use lib.Seq.{split-at, drop-append-add}
-use borrow.Author.Tests.{lt-ltb, le-ltb, eq-eqb, ne-eqb, ltb-true, ltb-false, eqb-true, eqb-false}
+use lib.Seq.{split-at, drop-cons, drop-append-add}
+use borrow.Author.Tests.{lt-ltb, le-ltb, eq-eqb, ne-eqb, ltb-true, ltb-false, eqb-true, eqb-false, not-true}
 use Rattle.lists.specs.Choice.{either}
-use Rattle.lists.specs.Lists.{indexOf, indexFrom, allOf}
-use Rattle.lists.proofs.Choice.{by, either-left, either-right}
+use Rattle.lists.specs.Lists.{indexOf, indexFrom, allOf, part}
+use Rattle.lists.proofs.Choice.{by, clash, either-left, either-right}
 use Rattle.lists.proofs.Lists.{index-within, index-found, index-clear, index-past, index-none, index-all, all-append, all-take, all-weaken, all-not-not}
-use Rattle.words.specs.Bytes.{allowed, letter, digit, punctuation, bracket, blank, solid, equals, barred}
+use Rattle.words.specs.Bytes.{allowed, letter, digit, punctuation, bracket, blank, solid, equals, unequal, barred}
 use Rattle.words.specs.Check.{checkOf, barredAt, equalsAt, afterAt}
 use Rattle.words.specs.declared.Checked.{Checked}
 
@@ -52,8 +52,8 @@ module _ (b : List ℕ) (some : length b ≡ 0 → ⊥) (fits : length b ≤ 204
 -- a claim about `checkOf b` is one for each line of the table
 pub check-cases : (A : Checked → Type 0) (b : List ℕ) → A (record { number = 1; place = 0; length = 0 })
     → (barredAt b < length b → A (record { number = 2; place = barredAt b; length = 1 }))
-    → A (record { number = 3; place = length b; length = 0 })
-    → (afterAt b < length b → A (record { number = 3; place = afterAt b; length = 1 }))
+    → (equalsAt b ≡ length b → A (record { number = 3; place = length b; length = 0 }))
+    → ((equalsAt b ≡ length b → ⊥) → afterAt b < length b → A (record { number = 3; place = afterAt b; length = 1 }))
     → ((length b ≡ 0 → ⊥) → length b ≤ 2048 → length b ≤ barredAt b → (equalsAt b ≡ length b → ⊥) → length b ≤ afterAt b → A (record { number = 0; place = equalsAt b; length = 0 }))
     → A (checkOf b)
 unfolding checkOf
@@ -61,8 +61,8 @@ check-cases A b one two none after good =
     by (eqb (length b) 0) (λ e. rw e one)
     (λ some. by (ltb 2048 (length b)) (λ e. rw (some, e) one)
     (λ fits. by (ltb (barredAt b) (length b)) (λ e. rw (some, fits, e) (two (ltb-true (barredAt b) (length b) e)))
-    (λ clean. by (eqb (equalsAt b) (length b)) (λ e. rw (some, fits, clean, e) none)
-    (λ found. by (ltb (afterAt b) (length b)) (λ e. rw (some, fits, clean, found, e) (after (ltb-true (afterAt b) (length b) e)))
+    (λ clean. by (eqb (equalsAt b) (length b)) (λ e. rw (some, fits, clean, e) (none (eqb-true (equalsAt b) (length b) e)))
+    (λ found. by (ltb (afterAt b) (length b)) (λ e. rw (some, fits, clean, found, e) (after (eqb-false (equalsAt b) (length b) found) (ltb-true (afterAt b) (length b) e)))
     (λ over. rw (some, fits, clean, found, over)
     (good (eqb-false (length b) 0 some) (ltb-false 2048 (length b) fits) (ltb-false (barredAt b) (length b) clean) (eqb-false (equalsAt b) (length b) found) (ltb-false (afterAt b) (length b) over)))))))
 
@@ -74,9 +74,43 @@ pub check-small : (b : List ℕ) → Small b (checkOf b)
 check-small b = check-cases (Small b) b
     (record { number = lit≤ tt; place = zero-le })
     (λ h. record { number = lit≤ tt; place = omega arith })
-    (record { number = lit≤ tt; place = omega arith })
     (λ h. record { number = lit≤ tt; place = omega arith })
+    (λ found h. record { number = lit≤ tt; place = omega arith })
     (λ some fits clean found over. record { number = zero-le; place = index-within equals b })
+
+-- the lengths of numbers 1 to 3
+pub record Sized (b : List ℕ) (r : Checked) : Type 0 where
+  pub one : r .number ≡ 1 → r .length ≡ 0
+  pub two : r .number ≡ 2 → (byte : ℕ) × (part (r .place) (r .place + r .length) b ≡ byte ∷ []) × (allowed byte ≡ false)
+  pub missing : r .number ≡ 3 → allOf unequal b ≡ true → r .length ≡ 0
+  pub after : r .number ≡ 3 → allOf unequal b ≡ false → r .length ≡ 1
+
+-- one byte
+part-one : (b : List ℕ) (p : ℕ) → p < length b → part p (p + 1) b ≡ getD b p 0 ∷ []
+part-one b p h = let one : (p + 1) - p ≡ 1 = omega arith in rw (one, drop-cons b p 0 h)
+
+pub check-sized : (b : List ℕ) → Sized b (checkOf b)
+check-sized b = check-cases (Sized b) b
+    (record { one = λ e. refl; two = λ e. absurd (omega arith); missing = λ e f. refl; after = λ e f. absurd (omega arith) })
+    (λ h. record {
+      one = λ e. absurd (omega arith);
+      two = λ e. (getD b (barredAt b) 0, part-one b (barredAt b) h, not-true (allowed (getD b (barredAt b) 0)) (index-found barred b 0 h));
+      missing = λ e f. absurd (omega arith);
+      after = λ e f. refl;
+    })
+    (λ h. record {
+      one = λ e. refl;
+      two = λ e. absurd (omega arith);
+      missing = λ e f. refl;
+      after = λ e f. clash (allOf unequal b) (index-all equals b (omega arith)) f;
+    })
+    (λ found h. record {
+      one = λ e. absurd (omega arith);
+      two = λ e. absurd (omega arith);
+      missing = λ e f. absurd (found (index-none equals b f));
+      after = λ e f. refl;
+    })
+    (λ some fits clean found over. record { one = λ e. refl; two = λ e. absurd (omega arith); missing = λ e f. refl; after = λ e f. absurd (omega arith) })
 
 -- what is known of bytes from which words can be read: `=` stands first at place e
 pub record Readable (b : List ℕ) (e : ℕ) : Type 0 where
@@ -86,7 +120,7 @@ pub record Readable (b : List ℕ) (e : ℕ) : Type 0 where
   pub split : b ≡ take e b ++ (61 ∷ drop (suc e) b)
   pub allowed-all : allOf allowed b ≡ true
   pub allowed-text : allOf allowed (take e b) ≡ true
-  pub no-equals : allOf (λ (x : ℕ). not (equals x)) (take e b) ≡ true
+  pub no-equals : allOf unequal (take e b) ≡ true
   pub blank-after : allOf blank (drop (suc e) b) ≡ true
 
 readable : (b : List ℕ) → length b ≤ 2048 → length b ≤ barredAt b → (equalsAt b ≡ length b → ⊥) → length b ≤ afterAt b → Readable b (equalsAt b)
@@ -110,8 +144,8 @@ pub check-readable : (b : List ℕ) → checkOf b .number ≡ 0 → Readable b (
 check-readable b = check-cases (λ (r : Checked). r .number ≡ 0 → Readable b (r .place)) b
     (λ e. absurd (omega arith))
     (λ h e. absurd (omega arith))
-    (λ e. absurd (omega arith))
     (λ h e. absurd (omega arith))
+    (λ found h e. absurd (omega arith))
     (λ some fits clean found over e. readable b fits clean found over)
 
 -- And back: a text of allowed bytes without `=`, that `=`, and blanks, all of it short enough.
@@ -120,7 +154,7 @@ blank-allowed : (x : ℕ) → blank x ≡ true → allowed x ≡ true
 unfolding allowed
 blank-allowed x e = either-right (letter x) (either-right (digit x) (either-left (either (punctuation x) (either (bracket x) (equals x))) e))
 
-module _ (t s : List ℕ) (good : allOf allowed t ≡ true) (free : allOf (λ (x : ℕ). not (equals x)) t ≡ true) (after : allOf blank s ≡ true) where
+module _ (t s : List ℕ) (good : allOf allowed t ≡ true) (free : allOf unequal t ≡ true) (after : allOf blank s ≡ true) where
   text-allowed : allOf allowed (t ++ (61 ∷ s)) ≡ true
   unfolding allOf allowed
   text-allowed = rw (all-append allowed t (61 ∷ s), good) (all-weaken blank allowed blank-allowed s after)
@@ -139,7 +173,7 @@ module _ (t s : List ℕ) (good : allOf allowed t ≡ true) (free : allOf (λ (x
       sym (not-refused b (omega arith) (omega arith) (sym (index-none barred b (all-not-not allowed b ∙ text-allowed))) (omega arith) text-equals (omega arith) text-after (omega arith))
 
 -- a text and its `=`, nothing after it
-pub check-bare : (t : List ℕ) → allOf allowed t ≡ true → allOf (λ (x : ℕ). not (equals x)) t ≡ true → length t < 2048
+pub check-bare : (t : List ℕ) → allOf allowed t ≡ true → allOf unequal t ≡ true → length t < 2048
     → checkOf (t ++ (61 ∷ [])) ≡ record { number = 0; place = length t; length = 0 }
 unfolding allOf
 check-bare t good free h = check-text t [] good free refl (rw add-zero h)

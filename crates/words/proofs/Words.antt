@@ -1,5 +1,5 @@
 -- The laws of words: what the next word is, what every word is, and that joining words and reading them undo one another.
-use mathlib.Core.Bool.{Bool, true, false, not}
+use mathlib.Core.Bool.{Bool, true, false}
 use mathlib.Core.List.{List, [], _∷_, _++_, map, append-nil, append-assoc}
 use mathlib.Core.Path.{_≡_, refl, ap, sym, _∙_}
 use Prim.Native.Nat.{ℕ, suc, _+_, _-_, _≤_, _<_, zero-le, suc-le-suc}
@@ -12,7 +12,7 @@ use borrow.Author.Tests.{lt-ltb, ltb-true, not-true}
 use Rattle.lists.specs.Lists.{indexOf, indexFrom, allOf, part}
 use Rattle.lists.proofs.Choice.{by, both-left, both-right, both-true}
 use Rattle.lists.proofs.Lists.{all-append, index-within, from-found, from-within, from-none}
-use Rattle.words.specs.Bytes.{allowed, blank, solid, equals, plain}
+use Rattle.words.specs.Bytes.{allowed, blank, solid, unequal, plain}
 use Rattle.words.specs.declared.Span.{Span}
 use Rattle.words.specs.Words.{Word, equalsSign, ended, scan, wordsAt, wordsIn, spanOf, runOf, solidWord, plainWord, gap, line}
 
@@ -145,10 +145,6 @@ ended-plains (b ∷ w) p q ws t f = record {
   words = ap (λ (r : List Word). record { place = p - length (b ∷ w); bytes = b ∷ w } ∷ r) (f .words);
   plains = both-true (run-of plain (b ∷ w) (suc-le-suc zero-le) t) (f .plains);
 }
-
--- a byte is no `=`
-abbrev pub unequal : ℕ → Bool
-unequal x = not (equals x)
 
 scan-plains : (p : ℕ) (w t : List ℕ) → allOf plain w ≡ true → allOf allowed t ≡ true → allOf unequal t ≡ true → Plains (p + length t) (scan p w t)
 unfolding scan allOf

@@ -38,6 +38,10 @@ bracket x = either (eqb x (code "(")) (eqb x (code ")"))
 abbrev pub equals : ℕ → Bool
 equals x = eqb x (code "=")
 
+-- any other byte
+abbrev pub unequal : ℕ → Bool
+unequal x = not (equals x)
+
 -- "A-Z, 0-9, space, CR, LF and `/ - . , ( ) =`"
 unfoldable pub allowed : ℕ → Bool
 allowed x = either (letter x) (either (digit x) (either (blank x) (either (punctuation x) (either (bracket x) (equals x)))))
@@ -47,4 +51,4 @@ barred x = not (allowed x)
 
 -- what a word may have: a byte that is allowed and neither blank nor `=`
 abbrev pub plain : ℕ → Bool
-plain x = both (allowed x) (both (solid x) (not (equals x)))
+plain x = both (allowed x) (both (solid x) (unequal x))
