@@ -4,18 +4,21 @@ use mathlib.Core.Bool.{true}
 use mathlib.Core.List.{List, [], _∷_, _++_, map, List·Memᴰ}
 use mathlib.Core.Logic.{_↔_}
 use mathlib.Core.Path.{_≡_, ap, sym, _∙_}
-use Prim.Native.Nat.{ℕ, suc, _≤_}
-use lib.ListN.{length, take}
+use Prim.Native.Nat.{ℕ, suc, _+_, _≤_, zero-le}
+use lib.ListN.{length, take, drop}
 use borrow.Author.Tests.{le-ltb}
-use Rattle.lists.specs.Lists.{allOf}
+use Rattle.lists.specs.Lists.{allOf, part}
 use Rattle.words.specs.Bytes.{allowed, unequal}
+use Rattle.words.specs.Check.{checkOf}
 use Rattle.words.specs.Words.{Word, equalsSign, wordsAt, lengthAt}
+use Rattle.words.proofs.Lengths.{word-found, word-bytes}
+use Rattle.words.proofs.Refusals.{check-readable}
 use Rattle.message.specs.Records.{good}
 use Rattle.message.specs.Words.{wordsOf, textOf}
 use Rattle.message.specs.declared.Record.{Record}
 use Rattle.grammar.specs.Judged.{messageWords, bytesOf, Whole, ComesNext, JudgedAs, RefusedAt}
 use Rattle.grammar.specs.Layout.{Canonical}
-use Rattle.grammar.specs.Bulletins.{acceptance}
+use Rattle.grammar.specs.Bulletins.{acceptance, textIn}
 use Rattle.grammar.specs.Parts.{Marked, marked, messageParts}
 use Rattle.grammar.specs.Reads.{readOf}
 use Rattle.grammar.specs.Replies.{Replied}
@@ -92,6 +95,15 @@ read-replied b = replied sound next good-accepted b
 -- … and no other.
 pub replied-only : (b : List ℕ) (q : Reply) → Replied b q → q ≡ readOf b
 replied-only b q h = reply-only sound next good-accepted b q h
+
+-- What stands in the bulletin at the place of a refusal by 4 to 12, as long as its length, is the refused word.
+pub refused-bytes : (b : List ℕ) (number place long : ℕ) → checkOf b .number ≡ 0 → (r : RefusedAt (wordsAt (textIn b) 0) number place long)
+    → part place (place + long) b ≡ r .word .bytes
+refused-bytes b n p long c r =
+    let e : ℕ = checkOf b .place in
+    let there : part (r .word .place) (r .word .place + length (r .word .bytes)) (textIn b ++ (61 ∷ drop (suc e) b)) ≡ r .word .bytes =
+    word-bytes (textIn b) (drop (suc e) b) (r .word) (word-found (textIn b) 0 zero-le (r .before) (r .word) (r .rest) (r .split)) in
+    rw (r .there, r .as-long, ← (check-readable b c .split)) at there
 
 -- Reading the canonical text of a good record gives that record: it always fits, so number 24 stays unused under today's limits.
 pub good-text-read : (r : Record) → good r ≡ true → readOf (textOf r) ≡ acceptance r

@@ -13,13 +13,13 @@ use Rattle.grammar.specs.Judged.{messageWords, bytesOf, Whole, ComesNext
 use Rattle.grammar.specs.Numbers.{numberOf}
 use Rattle.grammar.specs.Parts.{marked, partsOf}
 use Rattle.grammar.specs.Runs.{walk}
-use Rattle.grammar.specs.States.{State, Move}
+use Rattle.grammar.specs.States.{State}
 use Rattle.grammar.specs.States.Move.{goes, done}
 use Rattle.grammar.specs.States.State.{atDesignator}
 use Rattle.grammar.specs.Steps.{step}
 use Rattle.grammar.proofs.Invariant.{Ok}
-use Rattle.grammar.proofs.Marks.{unmarked, parts-words, start}
-use Rattle.grammar.proofs.Moves.{Fine, Next, walk-append}
+use Rattle.grammar.proofs.Marks.{unmarked, parts-words}
+use Rattle.grammar.proofs.Moves.{Fine, Next}
 use Rattle.grammar.proofs.NumberLaws.{number-range}
 use Rattle.grammar.proofs.PartLaws.{other-last, words-parts}
 use Rattle.grammar.proofs.FirstDead.{before-refused, numbers-one}

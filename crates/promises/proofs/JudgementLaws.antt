@@ -1,6 +1,5 @@
 -- The word that the reader refuses is judged as the paper says: what crate grammar has proved of words, said of the reader's replies.
 use mathlib.Core.List.{List, _∷_}
-use mathlib.Core.Path.{_≡_}
 use Prim.Native.Nat.{ℕ, _≤_}
 use native.Mathlib.Omega.{arith}
 use Rattle.words.specs.Check.{checkOf}

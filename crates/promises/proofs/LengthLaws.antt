@@ -1,38 +1,30 @@
 -- The length of a refusal: what `Replied` says of it, on the bytes of the bulletin.
 use mathlib.Core.Bool.{true, false}
-use mathlib.Core.List.{List, [], _∷_, _++_}
-use mathlib.Core.Path.{_≡_, refl, ap, sym, _∙_}
-use Prim.Native.Nat.{ℕ, suc, _+_, _≤_, zero-le}
+use mathlib.Core.List.{List, [], _∷_}
+use mathlib.Core.Path.{_≡_, refl}
+use Prim.Native.Nat.{ℕ, _≤_}
 use native.Mathlib.Omega.{arith}
-use lib.ListN.{length, take, drop}
-use Rattle.lists.specs.Lists.{allOf, part}
+use lib.ListN.{length}
+use Rattle.lists.specs.Lists.{allOf}
 use Rattle.words.specs.Bytes.{allowed, unequal}
 use Rattle.words.specs.Check.{checkOf}
-use Rattle.words.specs.Words.{Word, wordsAt}
-use Rattle.words.proofs.Lengths.{word-found, word-bytes}
-use Rattle.words.proofs.Refusals.{check-small, check-sized, check-readable}
+use Rattle.words.specs.Words.{wordsAt}
+use Rattle.words.proofs.Refusals.{check-small, check-sized}
 use Rattle.grammar.specs.Bulletins.{textIn}
 use Rattle.grammar.specs.Judged.{RefusedAt}
 use Rattle.grammar.specs.Replies.{Replied}
 use Rattle.grammar.specs.Replies.Replied.{unreadable, readAs, refusedAs}
 use Rattle.grammar.specs.declared.Reply.{Reply}
+use Rattle.grammar.proofs.Theorems as grammar
 use Rattle.roundtrips.specs.Trips.{MayRead}
 use Rattle.promises.specs.Lengths.{underlined, Lengths}
 use Rattle.promises.proofs.Contracts.{demand-1}
 
 module _ (b : List ℕ) where
-  -- the refused word stands in the bulletin
-  word-there : (n p long : ℕ) → checkOf b .number ≡ 0 → (r : RefusedAt (wordsAt (textIn b) 0) n p long) → part p (p + long) b ≡ r .word .bytes
-  word-there n p long c r =
-      let e : ℕ = checkOf b .place in
-      let there : part (r .word .place) (r .word .place + length (r .word .bytes)) (textIn b ++ (61 ∷ drop (suc e) b)) ≡ r .word .bytes =
-      word-bytes (textIn b) (drop (suc e) b) (r .word) (word-found (textIn b) 0 zero-le (r .before) (r .word) (r .rest) (r .split)) in
-      rw (r .there, r .as-long, ← (check-readable b c .split)) at there
-
   word : (p : Reply) → Replied b p → 4 ≤ p .number → (r : RefusedAt (wordsAt (textIn b) 0) (p .number) (p .place) (p .length)) × (underlined b p ≡ r .word .bytes)
   word p (unreadable k) h = absurd (let small : checkOf b .number ≤ 3 = check-small b .number in omega arith)
   word p (readAs c g w) h = absurd (omega arith)
-  word p (refusedAs {number} {place} {long} c low high r) h = (r, word-there number place long c r)
+  word p (refusedAs {number} {place} {long} c low high r) h = (r, grammar.refused-bytes b number place long c r)
 
   barred : (p : Reply) → Replied b p → p .number ≡ 2 → (byte : ℕ) × (underlined b p ≡ byte ∷ []) × (allowed byte ≡ false)
   barred p (unreadable k) h = check-sized b .two h

@@ -2,12 +2,12 @@
 use mathlib.Core.Bool.{Bool, true, false, not}
 use mathlib.Core.List.{List, [], _∷_}
 use mathlib.Core.Path.{_≡_, refl, ap, sym, _∙_}
-use Prim.Native.Nat.{ℕ, _-_, _≤_, _<_, zero-le}
+use Prim.Native.Nat.{ℕ, _-_, _≤_, _<_}
 use native.Mathlib.Omega.{arith}
 use lib.Dec.{eqb}
 use lib.ListN.{length}
 use borrow.Author.Tests.{eq-eqb, ne-eqb, eqb-true, eqb-false}
-use Rattle.lists.specs.Lists.{part, same}
+use Rattle.lists.specs.Lists.{same}
 use Rattle.lists.proofs.Choice.{by, clash, pick-true, pick-false, both-false-right}
 use Rattle.words.specs.Words.{wordFrom, lengthAt}
 use Rattle.figures.specs.Codes.{codeOf, FixedWord}

@@ -3,7 +3,7 @@ use mathlib.Core.Bool.{true}
 use mathlib.Core.List.{List}
 use mathlib.Core.Path.{_≡_}
 use Prim.Native.Nat.{ℕ}
-use Rattle.lists.specs.Lists.{part, same}
+use Rattle.lists.specs.Lists.{same}
 use Rattle.words.specs.Words.{wordFrom}
 use Rattle.figures.specs.Codes.{codeOf, FixedWord}
 use Rattle.grammar.specs.States.Move.{goes}

@@ -36,7 +36,7 @@ use Rattle.reader_sections.specs.Outlines.{Points, FollowsSays, ClosesSa
 use Rattle.reader_sections.specs.Steps.{wordOn, WordAt, Leads, Stands, Judged, TakesFixed}
 use Rattle.reader_sections.proofs.Leads.{then, over, judged-leads, judged-good, takes, field-good, standing}
 use Rattle.reader_sections.proofs.OneWord.{goes-word, dead-word}
-use Rattle.reader_sections.proofs.RunsAt.{OnlyWords, nothing, part-tells, in-text}
+use Rattle.reader_sections.proofs.RunsAt.{nothing, part-tells, in-text}
 use Rattle.reader_sections.proofs.Sides.{on-step, there-step, nowhere-step, takes-on, fixed-on}
 use Rattle.reader_sections.proofs.Tells.{latitude-tells, longitude-tells}
 

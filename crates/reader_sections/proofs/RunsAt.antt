@@ -1,6 +1,6 @@
 -- One step of a run from a place of the text: the word there moves the machine on, or is refused at its place.
 use mathlib.Core.Bool.{Bool, true, false}
-use mathlib.Core.List.{List, [], _∷_}
+use mathlib.Core.List.{List, []}
 use mathlib.Core.Path.{_≡_, refl, ap, sym, _∙_}
 use Prim.Native.Nat.{ℕ, _-_, _≤_, _<_}
 use native.Mathlib.Omega.{arith}
@@ -8,7 +8,7 @@ use lib.ListN.{length}
 use Rattle.lists.specs.Lists.{part}
 use Rattle.lists.proofs.Choice.{clash}
 use Rattle.words.specs.declared.Span.{Span}
-use Rattle.words.specs.Words.{equalsSign, wordsAt, spanOf, wordFrom}
+use Rattle.words.specs.Words.{equalsSign, spanOf, wordFrom}
 use Rattle.words.proofs.Lengths.{here, from-text, from-equals, span-again, split, next-is, last-is}
 use Rattle.words.proofs.Words.{Next, Last, words-skip, span-next, span-last}
 use Rattle.message.specs.declared.Record.{Record}

@@ -9,7 +9,7 @@ use lib.Dec.{eqb}
 use lib.ListN.{getD}
 use borrow.Author.Tests.{lt-ltb, eq-eqb, ne-eqb}
 use Rattle.lists.specs.Base.{worthAfter}
-use Rattle.lists.specs.Lists.{allOf, part, same}
+use Rattle.lists.specs.Lists.{allOf, same}
 use Rattle.lists.proofs.Choice.{by, either-right, either-cases, pick-true, pick-false}
 use Rattle.lists.proofs.Lists.{same-refl, same-is}
 use Rattle.words.specs.Words.{equalsSign, wordFrom}

@@ -1,13 +1,13 @@
 -- The first words of a storm, which the code tells by the place of a word's code among theirs.
 use mathlib.Core.Bool.{true, false}
-use mathlib.Core.List.{List, [], map}
+use mathlib.Core.List.{List, map}
 use mathlib.Core.Path.{_≡_, refl, ap, sym, _∙_}
 use Prim.Native.Nat.{ℕ, _+_, _-_, _≤_, _<_}
 use native.Mathlib.Omega.{arith}
 use lib.Dec.{eqb}
 use lib.ListN.{length}
 use borrow.Author.Tests.{lt-ltb, le-ltb, le-leb}
-use Rattle.lists.specs.Lists.{allOf, indexOf, part, same}
+use Rattle.lists.specs.Lists.{allOf, indexOf, same}
 use Rattle.lists.proofs.Choice.{clash, both-true}
 use Rattle.words.specs.Words.{wordFrom}
 use Rattle.figures.specs.Codes.{short, codeOf}

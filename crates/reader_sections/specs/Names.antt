@@ -7,7 +7,6 @@ use Prim.Native.Nat.{ℕ, _+_}
 use lib.Dec.{leb}
 use lib.ListN.{length, take}
 use Rattle.lists.specs.Choice.{pick, both}
-use Rattle.lists.specs.Lists.{part}
 use Rattle.words.specs.Words.{wordFrom}
 use Rattle.names.specs.Names.{inName}
 use Rattle.message.specs.declared.Name.{Name}

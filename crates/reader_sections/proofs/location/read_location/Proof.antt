@@ -5,7 +5,6 @@ use mathlib.Core.List.{List, []}
 use mathlib.Core.Path.{_≡_}
 use Prim.Native.Nat.{ℕ, _<_}
 use lib.Dec.{eqb, lit<}
-use Rattle.lists.specs.Lists.{part}
 use Rattle.words.specs.Words.{wordFrom}
 use Rattle.figures.specs.Codes.{codeOf}
 use Rattle.vocabulary.specs.Codes.{code-entire, code-wi}
