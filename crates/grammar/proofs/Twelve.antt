@@ -64,8 +64,7 @@ module _
     -- 12 "goes before 4 to 11": exactly where the `=` would also be accepted
     pub twelve-exactly : (ws : List Word) (n p long : ℕ) (r : RefusedAt ws n p long) → (n ≡ 12) ↔ Whole (bytesOf (r .before) ++ (equalsSign ∷ []))
     twelve-exactly ws n p long r =
-        let seen : List (List ℕ) = bytesOf (r .before) in
-        (
+        let seen : List (List ℕ) = bytesOf (r .before) in (
           λ e. twelve-whole seen (subst (ComesNext seen) e (r .judged .comes)),
           λ w.
               before-refused sound next forth ws n p long r
