@@ -110,7 +110,7 @@ pub(crate) fn long_at(text: &[u8], from: Step, wanted: &[u8], refusal: u8) -> St
     judged(text, from, found, refusal)
 }
 
-// After the last part only the `=` may come, the empty word: a word is refused by 12, and the whole answers number and place 0.
+// After the last part only the `=` may come, of which the text has no byte: a word is refused by 12, and the whole answers number and place 0.
 pub(crate) fn concluding(from: Step) -> Step
     ensures { λ r. ⌜ Closes from r ⌝ }
 {
