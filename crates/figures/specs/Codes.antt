@@ -36,5 +36,5 @@ pub record FixedWord (k : List ℕ) (code : ℕ) : Type 0 where
   pub is-short : short k ≡ true
   pub has : codeOf k ≡ code
   pub some : same [] k ≡ false
-  pub other : same equalsSign k ≡ false
+  pub no-sign : same equalsSign k ≡ false
   pub spelled : spellCode code ≡ k

@@ -6,10 +6,10 @@ use mathlib.Core.Path.{_≡_, refl, ap, sym, subst, _∙_}
 use Prim.Native.Nat.{ℕ, _≤_}
 use native.Mathlib.Omega.{arith}
 use lib.ListN.{length, length-map}
-use Rattle.words.specs.Words.{Word}
+use Rattle.words.specs.Words.{Word, bytesOf}
 use Rattle.message.specs.Records.{good}
 use Rattle.message.specs.declared.Record.{Record}
-use Rattle.grammar.specs.Judged.{messageWords, bytesOf, Begins, ComesNext, JudgedAs, RefusedAt}
+use Rattle.grammar.specs.Judged.{messageWords, Begins, ComesNext, JudgedAs, RefusedAt}
 use Rattle.grammar.specs.Numbers.{numberOf}
 use Rattle.grammar.specs.Parts.{Marked, marked, messageParts}
 use Rattle.grammar.specs.Runs.{advance, walk, run}
@@ -49,7 +49,7 @@ module _
 
     -- Begins: the walk is alive.
 
-    pub begun-alive : (ws : List (List ℕ)) (m : Move) → walk (start) ws ≡ m → Begins ws → Alive m
+    begun-alive : (ws : List (List ℕ)) (m : Move) → walk (start) ws ≡ m → Begins ws → Alive m
     begun-alive ws (goes s) e b = going
     begun-alive ws (done r) e b = over
     begun-alive ws dead e b =

@@ -13,7 +13,7 @@ use Rattle.lists.proofs.Choice.{by}
 use Rattle.words.specs.Check.{checkOf}
 use Rattle.words.specs.Bytes.{allowed, unequal}
 use Rattle.words.specs.Words.{wordsAt, wordsIn, wordFrom, lengthAt}
-use Rattle.words.proofs.Lengths.{word-found}
+use Rattle.words.proofs.NextWord.{word-found}
 use Rattle.words.proofs.Refusals.{Readable, check-readable}
 use Rattle.words.proofs.Words.{Plains, words-plain}
 use Rattle.message.specs.Records.{good}
@@ -23,7 +23,7 @@ use Rattle.grammar.specs.Bulletins.{textIn}
 use Rattle.grammar.specs.Reads.{replyOf, readOf}
 use Rattle.grammar.specs.Replies.{Replied}
 use Rattle.grammar.specs.Replies.Replied.{unreadable, readAs, refusedAs}
-use Rattle.grammar.specs.Runs.{walk, Ran, run, runAt}
+use Rattle.grammar.specs.Runs.{walk, Ran, runAt}
 use Rattle.grammar.specs.Runs.Ran.{accepted, refused}
 use Rattle.grammar.specs.States.{State}
 use Rattle.grammar.specs.States.Move.{goes, done}
@@ -35,8 +35,8 @@ use Rattle.grammar.proofs.Invariant.{Ok}
 use Rattle.grammar.proofs.Marks.{accepted-good, accepted-words}
 use Rattle.grammar.proofs.Moves.{Fine, Next}
 use Rattle.grammar.proofs.NumberLaws.{Range, number-range}
-use Rattle.grammar.proofs.RunLaws.{Breaks, Comes, words-come, run-walks, walk-runs}
-use Rattle.grammar.proofs.RunLaws.Comes.{breaks}
+use Rattle.grammar.proofs.RunLaws.{Breaks, Settled, words-settle, run-walks, walk-runs}
+use Rattle.grammar.proofs.RunLaws.Settled.{breaks}
 
 -- the length is that of the word which the finder of words finds at the refused place
 refused-long : (t : List ℕ) (n p long : ℕ) → RefusedAt (wordsAt t 0) n p long → long ≡ lengthAt t p
@@ -45,11 +45,11 @@ refused-long t n p long r =
     sym (r .as-long) ∙ ap (λ (w : List ℕ). length w) (sym (word-found t 0 zero-le (r .before) (r .word) (r .rest) (r .split) .word) ∙ ap (wordFrom t) (r .there))
 
 module _ (sound : (s : State) (w : List ℕ) → Ok s → Fine s w (step s w)) where
-  text-comes : (t : List ℕ) → allOf allowed t ≡ true → allOf unequal t ≡ true → Comes atDesignator (wordsAt t 0) (runAt atDesignator t 0)
+  text-settles : (t : List ℕ) → allOf allowed t ≡ true → allOf unequal t ≡ true → Settled atDesignator (wordsAt t 0) (runAt atDesignator t 0)
   unfolding runAt
-  text-comes t a f =
+  text-settles t a f =
       let s : Plains (length t) (wordsAt t 0) = words-plain t a f in
-      rw (s .words) (words-come sound (s .front) (length t) (s .plains) atDesignator tt)
+      rw (s .words) (words-settle sound (s .front) (length t) (s .plains) atDesignator tt)
 
   module _
       (next : (s : State) → Ok s → Next s)
@@ -71,7 +71,7 @@ module _ (sound : (s : State) (w : List ℕ) → Ok s → Fine s w (step s w)) w
           let r : RefusedAt (wordsAt t 0) n p (length (b .word .bytes)) = breaks-refused sound next forth (wordsAt t 0) n p b in
           subst (RefusedAt (wordsAt t 0) n p) (refused-long t n p (length (b .word .bytes)) r) r
 
-      ran-replied : (b : List ℕ) → checkOf b .number ≡ 0 → (x : Ran) → runAt atDesignator (textIn b) 0 ≡ x → Comes atDesignator (wordsAt (textIn b) 0) x
+      ran-replied : (b : List ℕ) → checkOf b .number ≡ 0 → (x : Ran) → runAt atDesignator (textIn b) 0 ≡ x → Settled atDesignator (wordsAt (textIn b) 0) x
           → Replied b (replyOf (textIn b) x)
       ran-replied b c (accepted r) e k = readAs c (text-accepted (textIn b) r e .0) (text-accepted (textIn b) r e .1)
       ran-replied b c (refused n p) e (breaks k) =
@@ -83,13 +83,10 @@ module _ (sound : (s : State) (w : List ℕ) → Ok s → Fine s w (step s w)) w
           → (runAt atDesignator t 0 ≡ refused n p) ↔ RefusedAt (wordsAt t 0) n p (lengthAt t p)
       unfolding runAt
       refused-exactly t a f n p =
-          (λ e. from (runAt atDesignator t 0) e (text-comes t a f), there-refused sound next forth (wordsAt t 0) n p (lengthAt t p))
+          (λ e. go (subst (Settled atDesignator (wordsAt t 0)) e (text-settles t a f)), there-refused sound next forth (wordsAt t 0) n p (lengthAt t p))
         where
-          from : (x : Ran) → x ≡ refused n p → Comes atDesignator (wordsAt t 0) x → RefusedAt (wordsAt t 0) n p (lengthAt t p)
-          from x e k = go (subst (Comes atDesignator (wordsAt t 0)) e k)
-            where
-              go : Comes atDesignator (wordsAt t 0) (refused n p) → RefusedAt (wordsAt t 0) n p (lengthAt t p)
-              go (breaks b) = text-refused t b
+          go : Settled atDesignator (wordsAt t 0) (refused n p) → RefusedAt (wordsAt t 0) n p (lengthAt t p)
+          go (breaks b) = text-refused t b
 
       -- every list of bytes gets such a reply …
       pub replied : (b : List ℕ) → Replied b (readOf b)
@@ -98,7 +95,7 @@ module _ (sound : (s : State) (w : List ℕ) → Ok s → Fine s w (step s w)) w
           (λ e.
           let c : checkOf b .number ≡ 0 = eqb-true (checkOf b .number) 0 e in
           let q : Readable b (checkOf b .place) = check-readable b c in
-          rw e (ran-replied b c (runAt atDesignator (textIn b) 0) refl (text-comes (textIn b) (q .allowed-text) (q .no-equals))))
+          rw e (ran-replied b c (runAt atDesignator (textIn b) 0) refl (text-settles (textIn b) (q .allowed-text) (q .no-equals))))
           (λ e. rw e (unreadable (let k : checkOf b .number ≡ 0 → ⊥ = eqb-false (checkOf b .number) 0 e in omega arith)))
 
       -- … and no other

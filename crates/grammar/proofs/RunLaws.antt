@@ -1,5 +1,5 @@
--- Runs, with places and numbers, and walks, over the words alone: a run accepts a record where the walk ends with it, and is refused where
--- the walk dies.
+-- Runs, with places and numbers, and walks, over the words alone: a run accepts a record where the walk ends with it, and over the words of a
+-- text it is refused where the walk dies.
 use mathlib.Core.Bool.{Bool, true, false}
 use mathlib.Core.List.{List, [], _∷_, _++_}
 use mathlib.Core.Path.{_≡_, refl, ap, sym, _∙_}
@@ -8,9 +8,8 @@ use native.Mathlib.Omega.{arith}
 use Rattle.lists.specs.Lists.{allOf}
 use Rattle.lists.proofs.Choice.{clash, both-left, both-right}
 use Rattle.words.specs.Bytes.{allowed}
-use Rattle.words.specs.Words.{Word, equalsSign, plainWord}
+use Rattle.words.specs.Words.{Word, equalsSign, plainWord, bytesOf}
 use Rattle.message.specs.declared.Record.{Record}
-use Rattle.grammar.specs.Judged.{bytesOf}
 use Rattle.grammar.specs.Numbers.{numberOf}
 use Rattle.grammar.specs.Parts.{Marked}
 use Rattle.grammar.specs.Runs.{walk, Ran, finished, run}
@@ -86,17 +85,17 @@ walk-move s m w ws e = rw e
 
 -- What comes of a run over plain words and the `=`: it accepts, or breaks off.
 
-pub data Comes (s : State) (ws : List Word) : Ran → Type 0 where
-  accepts : {r : Record} → Comes s ws (accepted r)
-  breaks : {n p : ℕ} → Breaks s ws n p → Comes s ws (refused n p)
+pub data Settled (s : State) (ws : List Word) : Ran → Type 0 where
+  accepts : {r : Record} → Settled s ws (accepted r)
+  breaks : {n p : ℕ} → Breaks s ws n p → Settled s ws (refused n p)
 
-breaks-here : (s : State) (w : Word) (ws : List Word) → step s (w .bytes) ≡ dead → Comes s (w ∷ ws) (run s (w ∷ ws))
+breaks-here : (s : State) (w : Word) (ws : List Word) → step s (w .bytes) ≡ dead → Settled s (w ∷ ws) (run s (w ∷ ws))
 unfolding walk
 breaks-here s w ws k =
     rw (run-dead s w ws k)
     (breaks (record { before = []; word = w; rest = ws; split = refl; there = refl; state = s; walked = refl; dies = k; numbered = refl }))
 
-breaks-later : (s next : State) (w : Word) (ws : List Word) {x : Ran} → step s (w .bytes) ≡ goes next → Comes next ws x → Comes s (w ∷ ws) x
+breaks-later : (s next : State) (w : Word) (ws : List Word) {x : Ran} → step s (w .bytes) ≡ goes next → Settled next ws x → Settled s (w ∷ ws) x
 breaks-later s next w ws k accepts = accepts
 breaks-later s next w ws k (breaks b) = breaks (record {
   before = w ∷ b .before;
@@ -122,23 +121,23 @@ abbrev withEnd : List Word → ℕ → List Word
 withEnd front q = front ++ (record { place = q; bytes = equalsSign } ∷ [])
 
 module _ (sound : (s : State) (w : List ℕ) → Ok s → Fine s w (step s w)) where
-  end-comes : (s : State) (q : ℕ) (m : Move) → step s equalsSign ≡ m → Stops m → Comes s (withEnd [] q) (run s (withEnd [] q))
-  end-comes s q (goes next) e x = absurd x
-  end-comes s q (done r) e x = rw (run-over s r (record { place = q; bytes = equalsSign }) [] e) accepts
-  end-comes s q dead e x = breaks-here s (record { place = q; bytes = equalsSign }) [] e
+  end-settles : (s : State) (q : ℕ) (m : Move) → step s equalsSign ≡ m → Stops m → Settled s (withEnd [] q) (run s (withEnd [] q))
+  end-settles s q (goes next) e x = absurd x
+  end-settles s q (done r) e x = rw (run-over s r (record { place = q; bytes = equalsSign }) [] e) accepts
+  end-settles s q dead e x = breaks-here s (record { place = q; bytes = equalsSign }) [] e
 
-  word-comes : (s : State) (w : Word) (ws : List Word) (m : Move) → step s (w .bytes) ≡ m → plainWord (w .bytes) ≡ true → Fine s (w .bytes) m
-      → ((next : State) → Ok next → Comes next ws (run next ws)) → Comes s (w ∷ ws) (run s (w ∷ ws))
-  word-comes s w ws (goes next) e b f later = rw (run-step s next w ws e) (breaks-later s next w ws e (later next (fine-leads f .ok)))
-  word-comes s w ws (done r) e b f later = absurd (plain-other (w .bytes) (ap (λ (m : Marked). m .word) (fine-ends f .last)) b)
-  word-comes s w ws dead e b f later = breaks-here s w ws e
+  word-settles : (s : State) (w : Word) (ws : List Word) (m : Move) → step s (w .bytes) ≡ m → plainWord (w .bytes) ≡ true → Fine s (w .bytes) m
+      → ((next : State) → Ok next → Settled next ws (run next ws)) → Settled s (w ∷ ws) (run s (w ∷ ws))
+  word-settles s w ws (goes next) e b f later = rw (run-step s next w ws e) (breaks-later s next w ws e (later next (fine-leads f .ok)))
+  word-settles s w ws (done r) e b f later = absurd (plain-other (w .bytes) (ap (λ (m : Marked). m .word) (fine-ends f .last)) b)
+  word-settles s w ws dead e b f later = breaks-here s w ws e
 
-  pub words-come : (front : List Word) (q : ℕ) → allPlain front ≡ true → (s : State) → Ok s → Comes s (withEnd front q) (run s (withEnd front q))
+  pub words-settle : (front : List Word) (q : ℕ) → allPlain front ≡ true → (s : State) → Ok s → Settled s (withEnd front q) (run s (withEnd front q))
   unfolding allOf
-  words-come [] q b s o = end-comes s q (step s equalsSign) refl (end-stops s o)
-  words-come (w ∷ ws) q b s o =
-      word-comes s w (withEnd ws q) (step s (w .bytes)) refl (both-left (plainWord (w .bytes)) (allPlain ws) b) (sound s (w .bytes) o)
-      (λ next k. words-come ws q (both-right (plainWord (w .bytes)) (allPlain ws) b) next k)
+  words-settle [] q b s o = end-settles s q (step s equalsSign) refl (end-stops s o)
+  words-settle (w ∷ ws) q b s o =
+      word-settles s w (withEnd ws q) (step s (w .bytes)) refl (both-left (plainWord (w .bytes)) (allPlain ws) b) (sound s (w .bytes) o)
+      (λ next k. words-settle ws q (both-right (plainWord (w .bytes)) (allPlain ws) b) next k)
 
 -- The converse: where the walk is in a state that the next word kills, the run is refused there.
 

@@ -5,18 +5,18 @@ use mathlib.Core.List.{List, [], _∷_, _++_, map, List·Memᴰ}
 use mathlib.Core.Logic.{_↔_}
 use mathlib.Core.Path.{_≡_, ap, sym, _∙_}
 use Prim.Native.Nat.{ℕ, suc, _+_, _≤_, zero-le}
-use lib.ListN.{length, take, drop}
+use lib.ListN.{length, take, drop, getD}
 use borrow.Author.Tests.{le-ltb}
 use Rattle.lists.specs.Lists.{allOf, part}
-use Rattle.words.specs.Bytes.{allowed, unequal}
+use Rattle.words.specs.Bytes.{allowed, equals, unequal}
 use Rattle.words.specs.Check.{checkOf}
-use Rattle.words.specs.Words.{Word, equalsSign, wordsAt, lengthAt}
-use Rattle.words.proofs.Lengths.{word-found, word-bytes}
+use Rattle.words.specs.Words.{Word, equalsSign, wordsAt, lengthAt, bytesOf}
+use Rattle.words.proofs.NextWord.{Found, word-found, word-bytes, word-equals}
 use Rattle.words.proofs.Refusals.{check-readable}
 use Rattle.message.specs.Records.{good}
 use Rattle.message.specs.Words.{wordsOf, textOf}
 use Rattle.message.specs.declared.Record.{Record}
-use Rattle.grammar.specs.Judged.{messageWords, bytesOf, Whole, ComesNext, JudgedAs, RefusedAt}
+use Rattle.grammar.specs.Judged.{messageWords, Whole, ComesNext, JudgedAs, RefusedAt}
 use Rattle.grammar.specs.Layout.{Canonical}
 use Rattle.grammar.specs.Bulletins.{acceptance, textIn}
 use Rattle.grammar.specs.Parts.{Marked, marked, messageParts}
@@ -96,14 +96,23 @@ read-replied b = replied sound next good-accepted b
 pub replied-only : (b : List ℕ) (q : Reply) → Replied b q → q ≡ readOf b
 replied-only b q h = reply-only sound next good-accepted b q h
 
--- What stands in the bulletin at the place of a refusal by 4 to 12, as long as its length, is the refused word.
-pub refused-bytes : (b : List ℕ) (number place long : ℕ) → checkOf b .number ≡ 0 → (r : RefusedAt (wordsAt (textIn b) 0) number place long)
-    → part place (place + long) b ≡ r .word .bytes
-refused-bytes b n p long c r =
-    let e : ℕ = checkOf b .place in
-    let there : part (r .word .place) (r .word .place + length (r .word .bytes)) (textIn b ++ (61 ∷ drop (suc e) b)) ≡ r .word .bytes =
-    word-bytes (textIn b) (drop (suc e) b) (r .word) (word-found (textIn b) 0 zero-le (r .before) (r .word) (r .rest) (r .split)) in
-    rw (r .there, r .as-long, ← (check-readable b c .split)) at there
+-- What stands in the bulletin at the place of a refusal by 4 to 12, as long as its length, is the refused word, …
+module _ (b : List ℕ) (number place long : ℕ) (c : checkOf b .number ≡ 0) (r : RefusedAt (wordsAt (textIn b) 0) number place long) where
+  found : Found (textIn b) (r .word)
+  found = word-found (textIn b) 0 zero-le (r .before) (r .word) (r .rest) (r .split)
+
+  -- the bulletin is its text, the `=` and what is behind it
+  abbrev behind : List ℕ
+  behind = drop (suc (checkOf b .place)) b
+
+  pub refused-bytes : part place (place + long) b ≡ r .word .bytes
+  refused-bytes = rw (r .there, r .as-long, ← (check-readable b c .split)) at (word-bytes (textIn b) behind (r .word) found)
+
+  -- … and where a `=` stands there, the length is 1.
+  pub refused-equals : equals (getD b place 0) ≡ true → long ≡ 1
+  refused-equals y =
+      let there : equals (getD (textIn b ++ (61 ∷ behind)) (r .word .place) 0) ≡ true = rw (r .there, ← (check-readable b c .split)) y in
+      sym (r .as-long) ∙ word-equals (textIn b) behind (r .word) found (check-readable b c .no-equals) there
 
 -- Reading the canonical text of a good record gives that record: it always fits, so number 24 stays unused under today's limits.
 pub good-text-read : (r : Record) → good r ≡ true → readOf (textOf r) ≡ acceptance r

@@ -5,11 +5,11 @@ use mathlib.Core.Logic.{_↔_}
 use mathlib.Core.Path.{_≡_, refl, ap, sym, subst, _∙_}
 use Prim.Native.Nat.{ℕ, _≤_}
 use native.Mathlib.Omega.{arith}
-use Rattle.words.specs.Words.{Word, equalsSign}
+use Rattle.words.specs.Words.{Word, equalsSign, bytesOf}
 use Rattle.message.specs.Records.{good}
 use Rattle.message.specs.Words.{wordsOf}
 use Rattle.message.specs.declared.Record.{Record}
-use Rattle.grammar.specs.Judged.{messageWords, bytesOf, Whole, ComesNext, RefusedAt}
+use Rattle.grammar.specs.Judged.{messageWords, Whole, ComesNext, RefusedAt}
 use Rattle.grammar.specs.Numbers.{numberOf}
 use Rattle.grammar.specs.Parts.{marked, partsOf}
 use Rattle.grammar.specs.Runs.{walk}

@@ -6,7 +6,7 @@ use mathlib.Core.List.{List, [], _∷_, _++_, map}
 use mathlib.Core.Path.{_≡_}
 use Prim.Native.Nat.{ℕ, _≤_}
 use lib.ListN.{length}
-use Rattle.words.specs.Words.{Word, equalsSign}
+use Rattle.words.specs.Words.{Word, equalsSign, bytesOf}
 use Rattle.message.specs.Records.{good}
 use Rattle.message.specs.Words.{wordsOf}
 use Rattle.message.specs.declared.Record.{Record}
@@ -15,9 +15,6 @@ use Rattle.grammar.specs.Parts.{Marked, marked, messageParts}
 -- the words of a message and its `=`
 abbrev pub messageWords : Record → List (List ℕ)
 messageWords r = wordsOf r ++ (equalsSign ∷ [])
-
-abbrev pub bytesOf : List Word → List (List ℕ)
-bytesOf ws = map (λ (w : Word). w .bytes) ws
 
 -- these words are an accepted message
 pub record Whole (ws : List (List ℕ)) : Type 0 where

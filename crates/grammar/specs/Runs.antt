@@ -26,7 +26,7 @@ pub data Ran : Type 0 where
   refused : ℕ → ℕ → Ran
   unfinished : Ran
 
--- "that `=` is the last word": one at place p with words behind it is refused as any other word there is
+-- "that `=` is the last word": a `=` at place p that has words behind it gets the number that any other word there would get
 abbrev pub finished : Record → ℕ → ℕ → List Word → Ran
 finished r number p [] = accepted r
 finished r number p (w ∷ ws) = refused number p

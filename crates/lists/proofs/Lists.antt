@@ -181,5 +181,14 @@ same-is (x ∷ xs) (y ∷ ys) t =
 
 -- A part of a list.
 
+pub part-empty : {A : Type 0} (a e : ℕ) (xs : List A) → a ≡ e → part a e xs ≡ []
+part-empty a e xs p = let none : e - a ≡ 0 = omega arith in rw none
+
+pub part-long : {A : Type 0} (a k : ℕ) (xs : List A) → part a (a + k) xs ≡ take k (drop a xs)
+part-long a k xs = let long : (a + k) - a ≡ k = omega arith in rw long
+
+pub part-one : {A : Type 0} (a : ℕ) (xs : List A) (d : A) → a < length xs → part a (a + 1) xs ≡ getD xs a d ∷ []
+part-one a xs d h = part-long a 1 xs ∙ rw (drop-cons xs a d h)
+
 pub length-part : {A : Type 0} (a e : ℕ) (xs : List A) → a ≤ e → e ≤ length xs → length (part a e xs) ≡ e - a
 length-part a e xs h k = length-take-le (e - a) (drop a xs) (rw length-drop (omega arith))

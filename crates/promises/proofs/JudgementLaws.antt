@@ -1,17 +1,19 @@
 -- The word that the reader refuses is judged as the paper says: what crate grammar has proved of words, said of the reader's replies.
 use mathlib.Core.List.{List, _∷_}
+use mathlib.Core.Path.{_≡_}
 use Prim.Native.Nat.{ℕ, _≤_}
 use native.Mathlib.Omega.{arith}
 use Rattle.words.specs.Check.{checkOf}
-use Rattle.words.specs.Words.{Word, wordsAt}
+use Rattle.words.specs.Words.{Word, wordsAt, bytesOf}
 use Rattle.words.proofs.Refusals.{check-small}
 use Rattle.grammar.specs.Bulletins.{textIn}
-use Rattle.grammar.specs.Judged.{bytesOf, JudgedAs, RefusedAt}
+use Rattle.grammar.specs.Judged.{JudgedAs, RefusedAt}
 use Rattle.grammar.specs.Parts.{Marked, marked}
 use Rattle.grammar.specs.Replies.{Replied}
 use Rattle.grammar.specs.Replies.Replied.{unreadable, readAs, refusedAs}
 use Rattle.grammar.specs.declared.Reply.{Reply}
 use Rattle.grammar.proofs.Theorems as grammar
+use Rattle.roundtrips.specs.Trips.{MayRead}
 use Rattle.promises.specs.Judgements.{GoesOn, NextRequired, Judgement, Judgements}
 use Rattle.promises.proofs.Contracts.{demand-1}
 
@@ -38,10 +40,15 @@ greatest ws part n =
 judged : (ws : List Word) (number place long : ℕ) (r : RefusedAt ws number place long) → Judgement (bytesOf (r .before)) number
 judged ws number place long r = record { twelve = grammar.theorem-d-twelve ws number place long r; required = next-required (bytesOf (r .before)) number (r .judged) }
 
-refused : (b : List ℕ) (p : Reply) → Replied b p → 4 ≤ p .number → RefusedAt (wordsAt (textIn b) 0) (p .number) (p .place) (p .length)
-refused b p (unreadable k) h = absurd (let small : checkOf b .number ≤ 3 = check-small b .number in omega arith)
-refused b p (readAs c g w) h = absurd (omega arith)
-refused b p (refusedAs c low high r) h = r
+pub says : (b : List ℕ) (p : Reply) → MayRead b p → Replied b p
+says b p m = demand-1 .fixed b p .0 m
+
+-- what is refused by 4 to 12 is a word
+pub refused-word : (b : List ℕ) (p : Reply) → Replied b p → 4 ≤ p .number
+    → (checkOf b .number ≡ 0) × RefusedAt (wordsAt (textIn b) 0) (p .number) (p .place) (p .length)
+refused-word b p (unreadable k) h = absurd (let small : checkOf b .number ≤ 3 = check-small b .number in omega arith)
+refused-word b p (readAs c g w) h = absurd (omega arith)
+refused-word b p (refusedAs c low high r) h = (c, r)
 
 pub judgements : Judgements
 judgements =
@@ -49,7 +56,7 @@ judgements =
       judged = judged;
       judged-reading =
           λ b p m h.
-          let r : RefusedAt (wordsAt (textIn b) 0) (p .number) (p .place) (p .length) = refused b p (demand-1 .fixed b p .0 m) h in
+          let r : RefusedAt (wordsAt (textIn b) 0) (p .number) (p .place) (p .length) = refused-word b p (says b p m) h .1 in
           (r, judged (wordsAt (textIn b) 0) (p .number) (p .place) (p .length) r);
       greatest-required = λ ws part. (next-required ws part, greatest ws part);
     }

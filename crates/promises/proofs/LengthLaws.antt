@@ -2,37 +2,28 @@
 use mathlib.Core.Bool.{true, false}
 use mathlib.Core.List.{List, [], _∷_}
 use mathlib.Core.Path.{_≡_, refl}
-use Prim.Native.Nat.{ℕ, _≤_}
+use Prim.Native.Nat.{ℕ, _<_}
 use native.Mathlib.Omega.{arith}
-use lib.ListN.{length}
 use Rattle.lists.specs.Lists.{allOf}
-use Rattle.words.specs.Bytes.{allowed, unequal}
-use Rattle.words.specs.Check.{checkOf}
-use Rattle.words.specs.Words.{wordsAt}
-use Rattle.words.proofs.Refusals.{check-small, check-sized}
-use Rattle.grammar.specs.Bulletins.{textIn}
-use Rattle.grammar.specs.Judged.{RefusedAt}
+use Rattle.words.specs.Bytes.{allowed, solid, unequal}
+use Rattle.words.specs.Check.{equalsAt}
+use Rattle.words.proofs.Refusals.{check-sized}
 use Rattle.grammar.specs.Replies.{Replied}
 use Rattle.grammar.specs.Replies.Replied.{unreadable, readAs, refusedAs}
 use Rattle.grammar.specs.declared.Reply.{Reply}
 use Rattle.grammar.proofs.Theorems as grammar
-use Rattle.roundtrips.specs.Trips.{MayRead}
 use Rattle.promises.specs.Lengths.{underlined, Lengths}
-use Rattle.promises.proofs.Contracts.{demand-1}
+use Rattle.promises.proofs.JudgementLaws.{says, refused-word}
 
 module _ (b : List ℕ) where
-  word : (p : Reply) → Replied b p → 4 ≤ p .number → (r : RefusedAt (wordsAt (textIn b) 0) (p .number) (p .place) (p .length)) × (underlined b p ≡ r .word .bytes)
-  word p (unreadable k) h = absurd (let small : checkOf b .number ≤ 3 = check-small b .number in omega arith)
-  word p (readAs c g w) h = absurd (omega arith)
-  word p (refusedAs {number} {place} {long} c low high r) h = (r, grammar.refused-bytes b number place long c r)
-
-  barred : (p : Reply) → Replied b p → p .number ≡ 2 → (byte : ℕ) × (underlined b p ≡ byte ∷ []) × (allowed byte ≡ false)
-  barred p (unreadable k) h = check-sized b .two h
+  barred : (p : Reply) → Replied b p → p .number ≡ 2 → (p .length ≡ 1) × ((byte : ℕ) × (underlined b p ≡ byte ∷ []) × (allowed byte ≡ false))
+  barred p (unreadable k) h = let two = check-sized b .two h in rw (two .0) (refl, two .1)
   barred p (readAs c g w) h = absurd (omega arith)
   barred p (refusedAs c low high r) h = absurd (omega arith)
 
-  after : (p : Reply) → Replied b p → p .number ≡ 3 → allOf unequal b ≡ false → p .length ≡ 1
-  after p (unreadable k) h f = check-sized b .after h f
+  after : (p : Reply) → Replied b p → p .number ≡ 3 → allOf unequal b ≡ false
+      → (p .length ≡ 1) × (equalsAt b < p .place) × ((byte : ℕ) × (underlined b p ≡ byte ∷ []) × (solid byte ≡ true))
+  after p (unreadable k) h f = let three = check-sized b .after h f in rw (three .0) (refl, three .1, three .2)
   after p (readAs c g w) h f = absurd (omega arith)
   after p (refusedAs c low high r) h f = absurd (omega arith)
 
@@ -51,13 +42,11 @@ module _ (b : List ℕ) where
   read p (readAs c g w) h = refl
   read p (refusedAs c low high r) h = absurd (omega arith)
 
-says : (b : List ℕ) (p : Reply) → MayRead b p → Replied b p
-says b p m = demand-1 .fixed b p .0 m
-
 pub lengths : Lengths
 lengths =
     record {
-      word = λ b p m. word b p (says b p m);
+      word = λ b p m h. let w = refused-word b p (says b p m) h in (w .1, grammar.refused-bytes b (p .number) (p .place) (p .length) (w .0) (w .1));
+      sign = λ b p m h. let w = refused-word b p (says b p m) h in grammar.refused-equals b (p .number) (p .place) (p .length) (w .0) (w .1);
       barred = λ b p m. barred b p (says b p m);
       after = λ b p m. after b p (says b p m);
       unfit = λ b p m. unfit b p (says b p m);

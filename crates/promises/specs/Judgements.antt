@@ -6,11 +6,11 @@ use mathlib.Core.List.{List, [], _∷_, _++_, map, List·Memᴰ}
 use mathlib.Core.Logic.{_↔_}
 use mathlib.Core.Path.{_≡_}
 use Prim.Native.Nat.{ℕ, _≤_}
-use Rattle.words.specs.Words.{Word, equalsSign, wordsAt}
+use Rattle.words.specs.Words.{Word, equalsSign, wordsAt, bytesOf}
 use Rattle.message.specs.Records.{good}
 use Rattle.message.specs.declared.Record.{Record}
 use Rattle.grammar.specs.Bulletins.{textIn}
-use Rattle.grammar.specs.Judged.{bytesOf, Whole, ComesNext, JudgedAs, RefusedAt}
+use Rattle.grammar.specs.Judged.{Whole, ComesNext, JudgedAs, RefusedAt}
 use Rattle.grammar.specs.Parts.{Marked, marked, messageParts}
 use Rattle.grammar.specs.declared.Reply.{Reply}
 use Rattle.roundtrips.specs.Trips.{MayRead}

@@ -4,9 +4,11 @@
 use mathlib.Core.Bool.{true, false}
 use mathlib.Core.List.{List, [], _∷_}
 use mathlib.Core.Path.{_≡_}
-use Prim.Native.Nat.{ℕ, _+_, _≤_}
+use Prim.Native.Nat.{ℕ, _+_, _<_, _≤_}
+use lib.ListN.{getD}
 use Rattle.lists.specs.Lists.{allOf, part}
-use Rattle.words.specs.Bytes.{allowed, unequal}
+use Rattle.words.specs.Bytes.{allowed, solid, equals, unequal}
+use Rattle.words.specs.Check.{equalsAt}
 use Rattle.words.specs.Words.{wordsAt}
 use Rattle.grammar.specs.Bulletins.{textIn}
 use Rattle.grammar.specs.Judged.{RefusedAt}
@@ -21,11 +23,13 @@ pub record Lengths : Type 0 where
   -- "that of the word for 4 to 12, 1 for `=`": what is underlined is the refused word, to its last byte
   pub word : (bulletin : List ℕ) (p : Reply) → MayRead bulletin p → 4 ≤ p .number
       → (r : RefusedAt (wordsAt (textIn bulletin) 0) (p .number) (p .place) (p .length)) × (underlined bulletin p ≡ r .word .bytes)
-  -- "1 for number 2": it is one byte, which is not allowed
+  pub sign : (bulletin : List ℕ) (p : Reply) → MayRead bulletin p → 4 ≤ p .number → equals (getD bulletin (p .place) 0) ≡ true → p .length ≡ 1
+  -- "1 for number 2": that of a byte that is not allowed
   pub barred : (bulletin : List ℕ) (p : Reply) → MayRead bulletin p → p .number ≡ 2
-      → (byte : ℕ) × (underlined bulletin p ≡ byte ∷ []) × (allowed byte ≡ false)
-  -- "and for a byte after `=`"
-  pub after : (bulletin : List ℕ) (p : Reply) → MayRead bulletin p → p .number ≡ 3 → allOf unequal bulletin ≡ false → p .length ≡ 1
+      → (p .length ≡ 1) × ((byte : ℕ) × (underlined bulletin p ≡ byte ∷ []) × (allowed byte ≡ false))
+  -- "and for a byte after `=`": no space, CR or LF
+  pub after : (bulletin : List ℕ) (p : Reply) → MayRead bulletin p → p .number ≡ 3 → allOf unequal bulletin ≡ false
+      → (p .length ≡ 1) × (equalsAt bulletin < p .place) × ((byte : ℕ) × (underlined bulletin p ≡ byte ∷ []) × (solid byte ≡ true))
   -- "0 for number 1 and for a missing `=`"
   pub unfit : (bulletin : List ℕ) (p : Reply) → MayRead bulletin p → p .number ≡ 1 → p .length ≡ 0
   pub missing : (bulletin : List ℕ) (p : Reply) → MayRead bulletin p → p .number ≡ 3 → allOf unequal bulletin ≡ true → p .length ≡ 0

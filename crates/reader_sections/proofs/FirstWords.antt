@@ -41,13 +41,13 @@ unfolding step
 time-judged l i w e = ap (λ (u : Time). goesIf (forecastTime u (timeOf w)) (atPlace (inForecast l i) atLocation)) e
 
 -- neither the empty word nor the `=` is a level
-pub level-none : OnlyWords (λ (w : List ℕ). goodLevelWord (levelOf w))
+pub level-only : OnlyWords (λ (w : List ℕ). goodLevelWord (levelOf w))
 unfolding levelOf goodLevelWord
-level-none = record { empty = refl; sign = refl }
+level-only = record { empty = refl; sign = refl }
 
-pub flight-none : OnlyWords (λ (w : List ℕ). flight (flightIn w))
+pub flight-only : OnlyWords (λ (w : List ℕ). flight (flightIn w))
 unfolding levelOf
-flight-none = record { empty = refl; sign = refl }
+flight-only = record { empty = refl; sign = refl }
 
 -- a level that is read from a word is a good one
 good-read : (w : List ℕ) → (levelOf w ≡ NoLevel → ⊥) → goodLevelWord (levelOf w) ≡ true

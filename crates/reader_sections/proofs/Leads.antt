@@ -9,6 +9,7 @@ use lib.ListN.{length}
 use borrow.Author.Tests.{eq-eqb, ne-eqb, eqb-true, eqb-false}
 use Rattle.lists.specs.Lists.{same}
 use Rattle.lists.proofs.Choice.{by, clash, pick-true, pick-false, both-false-right}
+use Rattle.lists.proofs.Lists.{part-empty}
 use Rattle.words.specs.Words.{wordFrom, lengthAt}
 use Rattle.figures.specs.Codes.{codeOf, FixedWord}
 use Rattle.figures.proofs.CodeLaws.{same-code}
@@ -26,7 +27,7 @@ use Rattle.reader_sections.specs.declared.steps.Step.{Step}
 use Rattle.reader_sections.specs.Openings.{CorrectionSays}
 use Rattle.reader_sections.specs.Steps.{wordOn, concluded, WordAt, runOn, Leads, Finishes, Stands, Before, Judged, Takes, TakesFixed, TakesLong, MayTake, Closes}
 use Rattle.reader_sections.proofs.OneWord.{Goes, good-word, bad-word, goes-word, same-word}
-use Rattle.reader_sections.proofs.RunsAt.{OnlyWords, nothing, part-test, part-passes, in-text, skip, word-again}
+use Rattle.reader_sections.proofs.RunsAt.{OnlyWords, part-test, part-passes, in-text, skip, word-again}
 use Rattle.reader_sections.proofs.Tells.{FieldTells, correction-tells}
 
 module _ {s mid : State} {t : List ℕ} {from to : Step} (g : Leads s t from to mid) where
@@ -141,7 +142,7 @@ module _ {t : List ℕ} {from to : Step} {g : Bool} {refusal : ℕ} (f : Stands 
     pub takes : Takes read good refusal t from to v
     takes = record {
       says = λ s next k n. judged-leads f j
-          (λ z. let same-place : from .place ≡ from .end = sym (f .stays z) in b ∙ (ap good (e ∙ ap read (nothing t _ _ same-place)) ∙ only .empty))
+          (λ z. let same-place : from .place ≡ from .end = sym (f .stays z) in b ∙ (ap good (e ∙ ap read (part-empty _ _ t same-place)) ∙ only .empty))
           (λ z y. good-word (standing f) (f .going z) read good e s next (k z) only (sym b ∙ y))
           (λ z y. bad-word (standing f) (f .going z) read good e s next (k z) only n (sym b ∙ y));
       stands = j .stands;
@@ -160,7 +161,7 @@ takes-by-field k f e j = takes f j (k .only) e (field-good k _ _ e)
 
 -- a fixed word, by its code
 only-fixed : {k : List ℕ} {m : ℕ} → FixedWord k m → OnlyWords (λ (w : List ℕ). same w k)
-only-fixed x = record { empty = x .some; sign = x .other }
+only-fixed x = record { empty = x .some; sign = x .no-sign }
 
 module _ {t : List ℕ} {from : Step} {c : ℕ} (f : Stands t from) (e : c ≡ codeOf (wordOn t from)) where
   pub coded : (k : List ℕ) (m : ℕ) → FixedWord k m → eqb c m ≡ same (wordOn t from) k
@@ -170,7 +171,7 @@ module _ {t : List ℕ} {from : Step} {c : ℕ} (f : Stands t from) (e : c ≡ c
   code-never : {k : List ℕ} {m : ℕ} → FixedWord k m → (from .number ≡ 0 → ⊥) → eqb c m ≡ false
   code-never {k} {m} x z =
       let same-place : from .place ≡ from .end = sym (f .stays z) in
-      coded k m x ∙ (ap (λ (u : List ℕ). same u k) (nothing t _ _ same-place) ∙ x .some)
+      coded k m x ∙ (ap (λ (u : List ℕ). same u k) (part-empty _ _ t same-place) ∙ x .some)
 
   pub takes-fixed : {to : Step} {m refusal : ℕ} → Judged t from (eqb c m) refusal to → TakesFixed m refusal t from to
   takes-fixed {m = m} j = record {
@@ -262,6 +263,6 @@ module _ {t : List ℕ} {from : Step} {v : ℕ} (f : Stands t from) (e : v ≡ c
         let good : goodCorrection (correctionOf (wordFrom t (from .place))) ≡ true = rw word at passes in
         past-leads f z (goes-word (standing f) k (atCorrection d c g) (atUnit (record { designator = d; centre = c; sent = g; correction = v }))
         (in-text (standing f) k (correction-tells .only) good) (rw (good, is))) p)
-        (λ z. absurd (y (e ∙ ap correctionOf (nothing t _ _ (sym (f .stays z))))));
+        (λ z. absurd (y (e ∙ ap correctionOf (part-empty _ _ t (sym (f .stays z))))));
     stands = p .stands;
   }

@@ -12,7 +12,7 @@ use borrow.Author.Tests.{le-leb, lt-leb, leb-true}
 use Rattle.lists.specs.Choice.{pick, both}
 use Rattle.lists.specs.Lists.{allOf}
 use Rattle.lists.proofs.Choice.{by, clash, both-left, both-right, both-unit, both-false-left, both-false-right, pick-true, pick-false}
-use Rattle.lists.proofs.Lists.{length-part}
+use Rattle.lists.proofs.Lists.{length-part, part-empty}
 use Rattle.words.specs.Words.{wordFrom}
 use Rattle.names.specs.Names.{closingOf, goodClosing, nameWord, inName}
 use Rattle.message.specs.declared.FirstLine.{FirstLine}
@@ -30,7 +30,7 @@ use Rattle.reader_sections.specs.Names.{BelongsSays, FirstSays, GrownSay
 use Rattle.reader_sections.specs.Steps.{wordOn, Leads, Stands, Before, Judged}
 use Rattle.reader_sections.proofs.Leads.{then, over, whether, standing, past-leads, judged-good, takes}
 use Rattle.reader_sections.proofs.OneWord.{goes-word}
-use Rattle.reader_sections.proofs.RunsAt.{OnlyWords, nothing, part-test, part-passes, in-text}
+use Rattle.reader_sections.proofs.RunsAt.{OnlyWords, part-test, part-passes, in-text}
 
 -- The states of a name.
 
@@ -97,7 +97,7 @@ module _ {m found : Bool} {limit used : ℕ} {t : List ℕ} {from : Step} (b : B
   -- the empty word of a refused step is none of a name
   never : Stands t from → (from .number ≡ 0 → ⊥) → found ≡ false
   unfolding nameWord
-  never f z = let empty = nothing t _ _ (sym (f .stays z)) in b .tells ∙ both-false-left _ (ap (inName m) empty)
+  never f z = let empty = part-empty _ _ t (sym (f .stays z)) in b .tells ∙ both-false-left _ (ap (inName m) empty)
 
   going : Stands t from → found ≡ true → from .number ≡ 0
   going f y = whether (from .number) (λ z. z) (λ z. clash found y (never f z))

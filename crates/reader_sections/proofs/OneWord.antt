@@ -13,8 +13,7 @@ use Rattle.lists.specs.Choice.{pick}
 use Rattle.lists.specs.Lists.{part, same}
 use Rattle.lists.proofs.Choice.{by}
 use Rattle.words.specs.Words.{equalsSign, spanOf, wordFrom}
-use Rattle.words.proofs.Lengths.{here}
-use Rattle.words.proofs.Words.{span-next}
+use Rattle.words.proofs.NextWord.{text-or-equals, span-moves}
 use Rattle.figures.specs.Reads.{Reads}
 use Rattle.message.specs.declared.Record.{Record}
 use Rattle.grammar.specs.Numbers.{numberOf}
@@ -92,8 +91,8 @@ module _ {t : List ℕ} {at start end : ℕ} (h : at ≤ length t) (w : WordAt t
   -- the `=` ends the message
   pub end-yes : start ≡ end → (r : Record) → runAt (atEnd r) t at ≡ accepted r
   unfolding step same
-  end-yes e r = here t at
-      (λ k. absurd (omega (arith, span-next t at (spanOf t at) refl k .moves, w .starts, w .ends)))
+  end-yes e r = text-or-equals t at
+      (λ k. absurd (omega (arith, span-moves t at k, w .starts, w .ends)))
       (λ k. done-at (atEnd r) r t at h k refl)
 
   -- a word where only the `=` may stand
@@ -101,5 +100,5 @@ module _ {t : List ℕ} {at start end : ℕ} (h : at ≤ length t) (w : WordAt t
   unfolding step
   end-no e r =
       let inside : spanOf t at .start < length t = omega (arith, w .ordered, w .within, w .starts) in
-      by (same (wordFrom t at) equalsSign) (λ y. undone-at (atEnd r) r t at inside (rw y)) (λ y. dead-at (atEnd r) t at h (rw y))
+      by (same (wordFrom t at) equalsSign) (λ y. undone-at (atEnd r) r t at h inside (rw y)) (λ y. dead-at (atEnd r) t at h (rw y))
       ∙ ap (refused 12) (sym (w .starts))

@@ -12,6 +12,7 @@ use borrow.Author.Tests.{ltb-true}
 use Rattle.lists.specs.Choice.{pick, both, either}
 use Rattle.lists.specs.Lists.{part}
 use Rattle.lists.proofs.Choice.{by, clash, both-left, both-right, both-false-left}
+use Rattle.lists.proofs.Lists.{part-empty}
 use Rattle.words.specs.Words.{equalsSign, wordFrom}
 use Rattle.vocabulary.specs.Codes.{code-dash}
 use Rattle.vocabulary.proofs.FixedWords.{fixed-dash}
@@ -36,7 +37,7 @@ use Rattle.reader_sections.specs.Outlines.{Points, FollowsSays, ClosesSa
 use Rattle.reader_sections.specs.Steps.{wordOn, WordAt, Leads, Stands, Judged, TakesFixed}
 use Rattle.reader_sections.proofs.Leads.{then, over, judged-leads, judged-good, takes, field-good, standing}
 use Rattle.reader_sections.proofs.OneWord.{goes-word, dead-word}
-use Rattle.reader_sections.proofs.RunsAt.{nothing, part-tells, in-text}
+use Rattle.reader_sections.proofs.RunsAt.{part-tells, in-text}
 use Rattle.reader_sections.proofs.Sides.{on-step, there-step, nowhere-step, takes-on, fixed-on}
 use Rattle.reader_sections.proofs.Tells.{latitude-tells, longitude-tells}
 
@@ -118,7 +119,7 @@ module _ {t : List ℕ} {from to : Step} {first : Point} {count refusal : ℕ} {
 
   never : (from .number ≡ 0 → ⊥) → g ≡ false
   never z =
-      good-fits ∙ both-false-left _ (ap (goodCoordinate eastWest) (e ∙ ap (coordinateOf eastWest) (nothing t _ _ (sym (f .stays z)))) ∙ longitude-tells .only .empty)
+      good-fits ∙ both-false-left _ (ap (goodCoordinate eastWest) (e ∙ ap (coordinateOf eastWest) (part-empty _ _ t (sym (f .stays z)))) ∙ longitude-tells .only .empty)
 
   some : from .number ≡ 0 → g ≡ true → from .place < length t
   some z y = in-text (standing f) (f .going z) (longitude-tells .only) (rw (east-is (standing f) (f .going z) e) (both-left _ fits (sym good-fits ∙ y)))

@@ -1,16 +1,17 @@
 -- One step of a run from a place of the text: the word there moves the machine on, or is refused at its place.
 use mathlib.Core.Bool.{Bool, true, false}
 use mathlib.Core.List.{List, []}
-use mathlib.Core.Path.{_≡_, refl, ap, sym, _∙_}
+use mathlib.Core.Path.{_≡_, ap, sym, _∙_}
 use Prim.Native.Nat.{ℕ, _-_, _≤_, _<_}
 use native.Mathlib.Omega.{arith}
 use lib.ListN.{length}
 use Rattle.lists.specs.Lists.{part}
 use Rattle.lists.proofs.Choice.{clash}
+use Rattle.lists.proofs.Lists.{part-empty}
 use Rattle.words.specs.declared.Span.{Span}
 use Rattle.words.specs.Words.{equalsSign, spanOf, wordFrom}
-use Rattle.words.proofs.Lengths.{here, from-text, from-equals, span-again, split, next-is, last-is}
-use Rattle.words.proofs.Words.{Next, Last, words-skip, span-next, span-last}
+use Rattle.words.proofs.NextWord.{text-or-equals, span-ordered, span-within, from-text, from-equals, span-again, split, next-is, last-is}
+use Rattle.words.proofs.Words.{words-skip}
 use Rattle.message.specs.declared.Record.{Record}
 use Rattle.grammar.specs.Numbers.{numberOf}
 use Rattle.grammar.specs.Runs.Ran.{accepted, refused}
@@ -22,13 +23,7 @@ use Rattle.reader_sections.specs.Steps.{WordAt}
 
 pub word-at-within : (t : List ℕ) (at : ℕ) (r : Span) → r ≡ spanOf t at → at ≤ length t → WordAt t at (r .start) (r .end)
 word-at-within t at r e h =
-    here t at
-    (λ k.
-    let n : Next t at (spanOf t at) = span-next t at (spanOf t at) refl k in
-    record { starts = ap (λ (s : Span). s .start) e; ends = ap (λ (s : Span). s .end) e; ordered = rw e (omega (arith, n .moves)); within = rw e (n .within) })
-    (λ k.
-    let l : Last t at (spanOf t at) = span-last t at (spanOf t at) refl h k in
-    record { starts = ap (λ (s : Span). s .start) e; ends = ap (λ (s : Span). s .end) e; ordered = rw e (omega (arith, l .starts, l .ends)); within = rw e (omega (arith, l .ends)) })
+    record { starts = ap (λ (s : Span). s .start) e; ends = ap (λ (s : Span). s .end) e; ordered = rw e (span-ordered t at); within = rw e (span-within t at h) }
 
 -- What the text has of the word: the word itself, or nothing of the `=`.
 
@@ -37,20 +32,17 @@ pub record OnlyWords (f : List ℕ → Bool) : Type 0 where
   pub empty : f [] ≡ false
   pub sign : f equalsSign ≡ false
 
-pub nothing : (t : List ℕ) (a e : ℕ) → a ≡ e → part a e t ≡ []
-nothing t a e p = let z : e - a ≡ 0 = omega arith in rw z
-
 module _ {t : List ℕ} {at start end : ℕ} (h : at ≤ length t) (w : WordAt t at start end) where
   part-is : start < length t → part start end t ≡ wordFrom t at
   part-is k = rw (from-text t at (rw (w .starts) at k), w .starts, w .ends)
 
   -- the `=`
   part-none : length t ≤ start → part start end t ≡ []
-  part-none k = nothing t start end (omega (arith, w .ordered, w .within))
+  part-none k = part-empty start end t (omega (arith, w .ordered, w .within))
 
   -- what cannot tell the `=` from no word sees the word
   pub part-tells : {A : Type 0} (f : List ℕ → A) → f [] ≡ f equalsSign → f (part start end t) ≡ f (wordFrom t at)
-  part-tells f blind = here t at
+  part-tells f blind = text-or-equals t at
       (λ k. ap f (part-is (rw (w .starts) k)))
       (λ k. ap f (part-none (rw (w .starts) k)) ∙ (blind ∙ ap f (sym (from-equals t at k))))
 
@@ -60,7 +52,7 @@ module _ {t : List ℕ} {at start end : ℕ} (h : at ≤ length t) (w : WordAt t
 
     -- a word that passes such a test is one of the text
     pub in-text : f (wordFrom t at) ≡ true → start < length t
-    in-text y = here t at (λ k. rw (w .starts) k) (λ k. clash (f equalsSign) (ap f (sym (from-equals t at k)) ∙ y) (o .sign))
+    in-text y = text-or-equals t at (λ k. rw (w .starts) k) (λ k. clash (f equalsSign) (ap f (sym (from-equals t at k)) ∙ y) (o .sign))
 
     pub part-passes : f (part start end t) ≡ true → part start end t ≡ wordFrom t at
     part-passes y = part-is (in-text (sym part-test ∙ y))
@@ -85,12 +77,11 @@ pub done-at : (s : State) (r : Record) (t : List ℕ) (at : ℕ) → at ≤ leng
 unfolding runAt run
 done-at s r t at h l k = rw (last-is t at h l, from-equals t at l, k)
 
--- any other `=` does not
-pub undone-at : (s : State) (r : Record) (t : List ℕ) (at : ℕ) → spanOf t at .start < length t → step s (wordFrom t at) ≡ done r
+-- a `=` inside the text has words behind it, and is refused
+pub undone-at : (s : State) (r : Record) (t : List ℕ) (at : ℕ) → at ≤ length t → spanOf t at .start < length t → step s (wordFrom t at) ≡ done r
     → runAt s t at ≡ refused (numberOf s) (spanOf t at .start)
 unfolding runAt run
-undone-at s r t at h k =
-    rw (next-is t at h, k, split t (spanOf t at .end) (span-next t at (spanOf t at) refl h .within) .words)
+undone-at s r t at g h k = rw (next-is t at h, k, split t (spanOf t at .end) (span-within t at g) .words)
 
 -- the word found again from where it begins
 pub word-again : {t : List ℕ} {at start end : ℕ} → WordAt t at start end → WordAt t start start end

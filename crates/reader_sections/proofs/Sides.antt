@@ -11,7 +11,7 @@ use borrow.Author.Tests.{lt-ltb, eq-eqb, ne-eqb}
 use Rattle.lists.specs.Base.{worthAfter}
 use Rattle.lists.specs.Lists.{allOf, same}
 use Rattle.lists.proofs.Choice.{by, either-right, either-cases, pick-true, pick-false}
-use Rattle.lists.proofs.Lists.{same-refl, same-is}
+use Rattle.lists.proofs.Lists.{same-refl, same-is, part-empty}
 use Rattle.words.specs.Words.{equalsSign, wordFrom}
 use Rattle.figures.specs.Codes.{short, codeOf, FixedWord}
 use Rattle.figures.proofs.CodeLaws.{code-tells}
@@ -38,7 +38,7 @@ use Rattle.reader_sections.specs.Locations.{sideIn, SideSays}
 use Rattle.reader_sections.specs.Steps.{wordOn, Leads, Stands, Before, Judged, Takes, TakesFixed}
 use Rattle.reader_sections.proofs.Leads.{then, whether, takes, standing, past-leads}
 use Rattle.reader_sections.proofs.OneWord.{goes-word}
-use Rattle.reader_sections.proofs.RunsAt.{OnlyWords, nothing, part-tells, in-text}
+use Rattle.reader_sections.proofs.RunsAt.{OnlyWords, part-tells, in-text}
 
 -- the number of what follows a location
 pub following-number : (site : Site) (e : Extent) → numberOf (after site e) ≡ followingPart site
@@ -200,7 +200,7 @@ module _ {t : List ℕ} {from : Step} {code letter : ℕ} (f : Stands t from) (e
   pub side-going : (letter ≡ 0 → ⊥) → from .number ≡ 0
   unfolding same
   side-going y = whether (from .number) (λ z. z)
-      (λ z. absurd (y (s .says _ e ∙ ap (sideIn (a .plus) (a .minus)) (nothing t _ _ (sym (f .stays z))))))
+      (λ z. absurd (y (s .says _ e ∙ ap (sideIn (a .plus) (a .minus)) (part-empty _ _ t (sym (f .stays z))))))
 
   letter-is : from .number ≡ 0 → letter ≡ sideIn (a .plus) (a .minus) (wordFrom t (from .place))
   unfolding same

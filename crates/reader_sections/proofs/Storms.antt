@@ -9,6 +9,7 @@ use lib.ListN.{length}
 use borrow.Author.Tests.{lt-ltb, le-ltb, le-leb}
 use Rattle.lists.specs.Lists.{allOf, indexOf, same}
 use Rattle.lists.proofs.Choice.{clash, both-true}
+use Rattle.lists.proofs.Lists.{part-empty}
 use Rattle.words.specs.Words.{wordFrom}
 use Rattle.figures.specs.Codes.{short, codeOf}
 use Rattle.figures.specs.Tables.{wordIn}
@@ -20,7 +21,7 @@ use Rattle.reader_sections.specs.declared.steps.Step.{Step}
 use Rattle.reader_sections.specs.Steps.{wordOn, Leads, Stands, Before}
 use Rattle.reader_sections.proofs.Leads.{whether, standing, past-leads}
 use Rattle.reader_sections.proofs.OneWord.{goes-word}
-use Rattle.reader_sections.proofs.RunsAt.{OnlyWords, nothing, part-test, part-passes, in-text}
+use Rattle.reader_sections.proofs.RunsAt.{OnlyWords, part-test, part-passes, in-text}
 
 storms-short : allOf short stormWords ≡ true
 unfolding stormWords allOf
@@ -55,7 +56,7 @@ module _ {t : List ℕ} {from : Step} {code n : ℕ} {codes : List ℕ} (f : Sta
       let good : goodStorm (stormOf (wordFrom t (from .place))) ≡ true = rw word at (storm-good l) in
       past-leads f z (goes-word (standing f) (f .going z) (atForm o) (atStorm o (n + 1)) (in-text (standing f) (f .going z) storm-only good)
       (j z ∙ rw (good, ap stormOf (sym word) ∙ storm-number l))) past)
-      (λ z. clash _ (storm-good l) (ap (λ (u : List ℕ). goodStorm (stormOf u)) (nothing t _ _ (sym (f .stays z))) ∙ storm-only .empty))
+      (λ z. clash _ (storm-good l) (ap (λ (u : List ℕ). goodStorm (stormOf u)) (part-empty _ _ t (sym (f .stays z))) ∙ storm-only .empty))
 
   -- the word is none of theirs
   pub no-storm : from .number ≡ 0 → 4 ≤ n → goodStorm (stormOf (wordFrom t (from .place))) ≡ false

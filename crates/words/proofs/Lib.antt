@@ -2,5 +2,5 @@ pub mod Ranges
 pub mod Walk
 pub mod Refusals
 pub mod Words
-pub mod Lengths
+pub mod NextWord
 pub mod Determined

@@ -8,12 +8,12 @@ use native.Mathlib.Numerals.{add-one}
 use native.Mathlib.Omega.{arith}
 use lib.Dec.{ltb, eqb, lit≤}
 use lib.ListN.{length, take, drop, getD, length-append, length-drop}
-use lib.Seq.{split-at, drop-cons, drop-append-add}
+use lib.Seq.{split-at, drop-append-add}
 use borrow.Author.Tests.{lt-ltb, le-ltb, eq-eqb, ne-eqb, ltb-true, ltb-false, eqb-true, eqb-false, not-true}
 use Rattle.lists.specs.Choice.{either}
 use Rattle.lists.specs.Lists.{indexOf, indexFrom, allOf, part}
 use Rattle.lists.proofs.Choice.{by, clash, either-left, either-right}
-use Rattle.lists.proofs.Lists.{index-within, index-found, index-clear, index-past, index-none, index-all, all-append, all-take, all-weaken, all-not-not}
+use Rattle.lists.proofs.Lists.{part-one, from-found, index-within, index-found, index-clear, index-past, index-none, index-all, all-append, all-take, all-weaken, all-not-not}
 use Rattle.words.specs.Bytes.{allowed, letter, digit, punctuation, bracket, blank, solid, equals, unequal, barred}
 use Rattle.words.specs.Check.{checkOf, barredAt, equalsAt, afterAt}
 use Rattle.words.specs.declared.Checked.{Checked}
@@ -81,22 +81,19 @@ check-small b = check-cases (Small b) b
 -- the lengths of numbers 1 to 3
 pub record Sized (b : List ℕ) (r : Checked) : Type 0 where
   pub one : r .number ≡ 1 → r .length ≡ 0
-  pub two : r .number ≡ 2 → (byte : ℕ) × (part (r .place) (r .place + r .length) b ≡ byte ∷ []) × (allowed byte ≡ false)
+  pub two : r .number ≡ 2 → (r .length ≡ 1) × ((byte : ℕ) × (part (r .place) (r .place + 1) b ≡ byte ∷ []) × (allowed byte ≡ false))
   pub missing : r .number ≡ 3 → allOf unequal b ≡ true → r .length ≡ 0
-  pub after : r .number ≡ 3 → allOf unequal b ≡ false → r .length ≡ 1
-
--- one byte
-part-one : (b : List ℕ) (p : ℕ) → p < length b → part p (p + 1) b ≡ getD b p 0 ∷ []
-part-one b p h = let one : (p + 1) - p ≡ 1 = omega arith in rw (one, drop-cons b p 0 h)
+  pub after : r .number ≡ 3 → allOf unequal b ≡ false
+      → (r .length ≡ 1) × (equalsAt b < r .place) × ((byte : ℕ) × (part (r .place) (r .place + 1) b ≡ byte ∷ []) × (solid byte ≡ true))
 
 pub check-sized : (b : List ℕ) → Sized b (checkOf b)
 check-sized b = check-cases (Sized b) b
     (record { one = λ e. refl; two = λ e. absurd (omega arith); missing = λ e f. refl; after = λ e f. absurd (omega arith) })
     (λ h. record {
       one = λ e. absurd (omega arith);
-      two = λ e. (getD b (barredAt b) 0, part-one b (barredAt b) h, not-true (allowed (getD b (barredAt b) 0)) (index-found barred b 0 h));
+      two = λ e. (refl, (getD b (barredAt b) 0, part-one (barredAt b) b 0 h, not-true (allowed (getD b (barredAt b) 0)) (index-found barred b 0 h)));
       missing = λ e f. absurd (omega arith);
-      after = λ e f. refl;
+      after = λ e f. absurd (omega arith);
     })
     (λ h. record {
       one = λ e. refl;
@@ -108,7 +105,7 @@ check-sized b = check-cases (Sized b) b
       one = λ e. absurd (omega arith);
       two = λ e. absurd (omega arith);
       missing = λ e f. absurd (found (index-none equals b f));
-      after = λ e f. refl;
+      after = λ e f. (refl, omega arith, (getD b (afterAt b) 0, part-one (afterAt b) b 0 h, from-found solid b (equalsAt b + 1) 0 h));
     })
     (λ some fits clean found over. record { one = λ e. refl; two = λ e. absurd (omega arith); missing = λ e f. refl; after = λ e f. absurd (omega arith) })
 

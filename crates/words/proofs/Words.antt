@@ -1,6 +1,6 @@
 -- The laws of words: what the next word is, what every word is, and that joining words and reading them undo one another.
 use mathlib.Core.Bool.{Bool, true, false}
-use mathlib.Core.List.{List, [], _∷_, _++_, map, append-nil, append-assoc}
+use mathlib.Core.List.{List, [], _∷_, _++_, append-nil, append-assoc}
 use mathlib.Core.Path.{_≡_, refl, ap, sym, _∙_}
 use Prim.Native.Nat.{ℕ, suc, _+_, _-_, _≤_, _<_, zero-le, suc-le-suc}
 use native.Mathlib.Nat.{suc-add, add-suc, add-zero, zero-add, not-suc-le-zero}
@@ -11,10 +11,9 @@ use lib.Seq.{drop-drop, append-snoc, length-take-le, drop-length, getD-drop}
 use borrow.Author.Tests.{lt-ltb, ltb-true, not-true}
 use Rattle.lists.specs.Lists.{indexOf, indexFrom, allOf, part}
 use Rattle.lists.proofs.Choice.{by, both-left, both-right, both-true}
-use Rattle.lists.proofs.Lists.{all-append, index-within, from-found, from-within, from-none}
+use Rattle.lists.proofs.Lists.{all-append, index-within, from-found, from-within}
 use Rattle.words.specs.Bytes.{allowed, blank, solid, unequal, plain}
-use Rattle.words.specs.declared.Span.{Span}
-use Rattle.words.specs.Words.{Word, equalsSign, ended, scan, wordsAt, wordsIn, spanOf, runOf, solidWord, plainWord, gap, line}
+use Rattle.words.specs.Words.{Word, equalsSign, ended, scan, wordsAt, bytesOf, wordsIn, runOf, solidWord, plainWord, gap, line}
 
 -- One word further.
 
@@ -105,30 +104,6 @@ pub last-word : (t : List ℕ) (p : ℕ) → p ≤ length t → length t ≤ sta
 unfolding scan
 last-word t p h k = words-skip t p ∙ rw (last-start t p h k, drop-length t)
 
--- The same of the reply of `word_at`.
-
-pub record Next (t : List ℕ) (p : ℕ) (r : Span) : Type 0 where
-  pub words : wordsAt t p ≡ record { place = r .start; bytes = part (r .start) (r .end) t } ∷ wordsAt t (r .end)
-  pub moves : r .start < r .end
-  pub within : r .end ≤ length t
-
-pub record Last (t : List ℕ) (p : ℕ) (r : Span) : Type 0 where
-  pub words : wordsAt t p ≡ record { place = length t; bytes = equalsSign } ∷ []
-  pub starts : r .start ≡ length t
-  pub ends : r .end ≡ length t
-
-pub span-next : (t : List ℕ) (p : ℕ) (r : Span) → r ≡ spanOf t p → r .start < length t → Next t p r
-unfolding spanOf
-span-next t p r e h =
-    let k : startAt t p < length t = rw e at h in
-    rw e (record { words = next-word t p k; moves = next-moves t p k; within = next-within t p k })
-
-pub span-last : (t : List ℕ) (p : ℕ) (r : Span) → r ≡ spanOf t p → p ≤ length t → length t ≤ r .start → Last t p r
-unfolding spanOf
-span-last t p r e h k =
-    let l : length t ≤ startAt t p = rw e at k in
-    rw e (record { words = last-word t p h l; starts = last-start t p h l; ends = from-none blank t (startAt t p) l ∙ last-start t p h l })
-
 -- Every word but the last is a plain word, where the text has allowed bytes only and no `=`.
 
 -- some plain words, and then the `=` at place q
@@ -166,10 +141,10 @@ words-plain t a f = rw zero-add at (scan-plains 0 [] t refl a f)
 
 -- the words from place p on, w being read so far, without their places
 abbrev pub bytesFrom : ℕ → List ℕ → List ℕ → List (List ℕ)
-bytesFrom p w t = map (λ (v : Word). v .bytes) (scan p w t)
+bytesFrom p w t = bytesOf (scan p w t)
 
-bytes-ended : (w : List ℕ) (p q : ℕ) (us vs : List Word) → map (λ (v : Word). v .bytes) us ≡ map (λ (v : Word). v .bytes) vs
-    → map (λ (v : Word). v .bytes) (ended w p us) ≡ map (λ (v : Word). v .bytes) (ended w q vs)
+bytes-ended : (w : List ℕ) (p q : ℕ) (us vs : List Word) → bytesOf us ≡ bytesOf vs
+    → bytesOf (ended w p us) ≡ bytesOf (ended w q vs)
 bytes-ended [] p q us vs e = e
 bytes-ended (b ∷ w) p q us vs e = rw e
 

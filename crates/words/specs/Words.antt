@@ -36,9 +36,13 @@ scan p w (b ∷ bs) = pick (blank b) (ended w p (scan (suc p) [] bs)) (scan (suc
 abbrev pub wordsAt : List ℕ → ℕ → List Word
 wordsAt t p = scan p [] (drop p t)
 
--- the words of the text t without their places, the `=` last
+-- words without their places
+abbrev pub bytesOf : List Word → List (List ℕ)
+bytesOf ws = map (λ (w : Word). w .bytes) ws
+
+-- the words of the text t, the `=` last
 abbrev pub wordsIn : List ℕ → List (List ℕ)
-wordsIn t = map (λ (w : Word). w .bytes) (wordsAt t 0)
+wordsIn t = bytesOf (wordsAt t 0)
 
 -- where the next word from a place on begins and ends in the text; the `=` has no byte there
 unfoldable pub spanOf : List ℕ → ℕ → Span

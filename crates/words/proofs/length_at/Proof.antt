@@ -1,6 +1,6 @@
 -- `length_at` meets its contract: a word of the text has the bytes between its two places, and the `=` one.
 use borrow.Author.Needs.{needs}
-use Rattle.words.proofs.Lengths.{span-ordered, length-equals, length-word}
+use Rattle.words.proofs.NextWord.{length-ordered, length-equals, length-word}
 use Rattle.words.proofs.length_at.Statement.{statement}
 use Rattle.words.proofs.length_at.Tie as tie
 
@@ -11,7 +11,7 @@ returns : tie.Need-returns
 returns c = search length-equals
 
 sub-result : tie.Need-sub-result
-sub-result c = search span-ordered
+sub-result c = search length-ordered
 
 returns-2 : tie.Need-returns-2
 returns-2 c = search length-word

@@ -12,13 +12,13 @@ use Rattle.grammar.specs.Steps.{cancels}
 use Rattle.reader_sections.specs.declared.steps.Step.{Step}
 use Rattle.reader_sections.specs.Steps.{wordOn, Stands, Judged, Takes}
 use Rattle.reader_sections.proofs.Leads.{takes}
-use Rattle.reader_sections.proofs.Tells.{cancelled-none}
+use Rattle.reader_sections.proofs.Tells.{cancelled-only}
 use Rattle.reader_sections.proofs.cancellation.cancelled_at.Statement.{statement}
 use Rattle.reader_sections.proofs.cancellation.cancelled_at.Tie as tie
 
 cancelled : (l : FirstLine) (s : Sequence) {t : List ℕ} {from to : Step} {p : Period} {good : Bool} → Stands t from → p ≡ periodOf (wordOn t from) → good ≡ cancels l s p
     → Judged t from good 7 to → Takes periodOf (cancels l s) 7 t from to p
-cancelled l s f e g j = takes f j (cancelled-none l s) e g
+cancelled l s f e g j = takes f j (cancelled-only l s) e g
 
 returns : tie.Need-returns
 returns c = search (cancelled, needs)

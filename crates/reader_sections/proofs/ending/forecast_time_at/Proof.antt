@@ -5,7 +5,6 @@ use mathlib.Core.List.{List}
 use mathlib.Core.Path.{_≡_}
 use Prim.Native.Nat.{ℕ}
 use Rattle.lists.specs.Choice.{both}
-use Rattle.lists.specs.Lists.{part}
 use Rattle.groups.specs.declared.Time.{Time}
 use Rattle.groups.specs.Groups.{timeOf, goodTime}
 use Rattle.grammar.specs.Steps.{sameTime}
@@ -13,13 +12,13 @@ use Rattle.reader_sections.specs.declared.steps.Step.{Step}
 use Rattle.reader_sections.specs.Endings.{forecastTime}
 use Rattle.reader_sections.specs.Steps.{wordOn, Stands, Judged, Takes}
 use Rattle.reader_sections.proofs.Leads.{takes}
-use Rattle.reader_sections.proofs.Tells.{forecast-none}
+use Rattle.reader_sections.proofs.Tells.{forecast-only}
 use Rattle.reader_sections.proofs.ending.forecast_time_at.Statement.{statement}
 use Rattle.reader_sections.proofs.ending.forecast_time_at.Tie as tie
 
 forecast-time : (end : Time) {t : List ℕ} {from to : Step} {u : Time} {same good b : Bool} → Stands t from → u ≡ timeOf (wordOn t from) → same ≡ sameTime u end
     → good ≡ goodTime u → b ≡ both good same → Judged t from b 11 to → Takes timeOf (forecastTime end) 11 t from to u
-forecast-time end f e s g b j = takes f j (forecast-none end) e (rw (b, g, s))
+forecast-time end f e s g b j = takes f j (forecast-only end) e (rw (b, g, s))
 
 returns : tie.Need-returns
 returns c = search (forecast-time, needs)
