@@ -36,8 +36,8 @@ use steps::Step;
 use steps::step_at;
 use words::length_at;
 
-// The reply to the text before the first `=`: its record, or 4 to 12 at a word. What is refused up to the area is answered at once, for a bad
-// bulletin mostly is.
+// The reply to the text before the first `=`: its record, or 4 to 12 at a word, with its length. What is refused up to the area is answered at
+// once, for a bad bulletin mostly is.
 pub fn read_text(text: &[u8]) -> Reply
     ensures { λ r. ⌜ r ≡ replyOf (now (text .entry)) (runAt atDesignator (now (text .entry)) 0) ⌝ }
 {

@@ -97,7 +97,7 @@ pub fn word_at(text: &[u8], place: usize) -> Span
     Span { start, end }
 }
 
-// The length of the next word of the text from a place on. The `=` at the text's end is a word of one byte.
+// The length of the next word of the text from a place on; the `=` behind the text is a word of one byte.
 pub fn length_at(text: &[u8], place: usize) -> usize
     ensures { λ r. ⌜ r ≡ lengthAt (now (text .entry)) place ⌝ }
 {
