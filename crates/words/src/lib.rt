@@ -1,11 +1,12 @@
 // Bytes to words: refusal numbers 1 to 3 with place and length, and the word at a place of the text before `=`, with its length.
 ghost use mathlib.Core.Path.{_≡_};
-ghost use Prim.Native.Nat.{_+_};
 ghost use Rattle.words.specs.Bytes.{letter, digit};
 ghost use Rattle.words.specs.Check.{checkOf};
 ghost use Rattle.words.specs.Words.{spanOf, lengthAt};
 
 mod bytes;
+mod one_walk;
+mod table;
 mod walks;
 
 use lists::both;
@@ -38,7 +39,7 @@ pub fn is_digit(x: u8) -> bool
 // The most bytes that a bulletin may have.
 const MOST_BYTES: usize = 2048;
 
-// Can words be read from these bytes? The tests go in the paper's order, each its own walk.
+// Can words be read from these bytes? All the tests in one walk.
 pub fn check(bulletin: &[u8]) -> Checked
     ensures { λ r. ⌜ r ≡ checkOf (now (bulletin .entry)) ⌝ }
 {
@@ -57,35 +58,8 @@ pub fn check(bulletin: &[u8]) -> Checked
             length: 0,
         };
     }
-    let barred = walks::first_barred(bulletin);
-    if barred < length {
-        return Checked {
-            number: 2,
-            place: barred,
-            length: 1,
-        };
-    }
-    let equals = walks::first_equals(bulletin);
-    if equals == length {
-        return Checked {
-            number: 3,
-            place: length,
-            length: 0,
-        };
-    }
-    let after = walks::first_solid(bulletin, equals + 1);
-    if after < length {
-        return Checked {
-            number: 3,
-            place: after,
-            length: 1,
-        };
-    }
-    Checked {
-        number: 0,
-        place: equals,
-        length: 0,
-    }
+    let kinds = table::kinds();
+    one_walk::answer(bulletin, &kinds)
 }
 
 // The next word of the text from a place on: empty, at the text's length, where only blanks are left (past the text, at the place).

@@ -1,0 +1,195 @@
+-- The answer that grows from byte to byte is the one of the refusal table.
+use mathlib.Core.Bool.{Bool, true, false, not}
+use mathlib.Core.List.{List, [], _∷_}
+use mathlib.Core.Path.{_≡_, refl, sym, ap, _∙_}
+use Prim.Native.Char.{code}
+use Prim.Native.Nat.{ℕ, suc, _+_, _-_, _*_, _≤_, _<_}
+use native.Mathlib.Nat.{add-zero, zero-add, add-suc, suc-add}
+use native.Mathlib.Numerals.{add-one}
+use native.Mathlib.Omega.{arith}
+use lib.Dec.{ltb, eqb}
+use lib.ListN.{length, drop, getD, drop-of-length-le}
+use lib.Seq.{drop-cons}
+use borrow.Author.Tests.{eq-eqb, ne-eqb, lt-ltb, le-ltb, eqb-true, eqb-false, ltb-true, ltb-false}
+use Rattle.lists.specs.Choice.{pick}
+use Rattle.lists.specs.Lists.{indexOf, indexFrom}
+use Rattle.lists.proofs.Choice.{by, clash}
+use Rattle.words.specs.Bytes.{blank, solid, equals, barred}
+use Rattle.words.specs.Check.{checkOf, barredAt, equalsAt, afterAt}
+use Rattle.words.specs.Kinds.{kindOf, IsKind}
+use Rattle.words.specs.Seen.{noEquals, seenAt, fourSeen, allSeen}
+use Rattle.words.specs.declared.Checked.{Checked}
+
+-- the answers so far, beside `noEquals`: a byte at place p is not allowed
+abbrev notAllowed : ℕ → Checked
+notAllowed p = record { number = 2; place = p; length = 1 }
+
+-- behind the first `=`, at place e, only blanks were seen
+abbrev ended : ℕ → Checked
+ended e = record { number = 0; place = e; length = 0 }
+
+-- behind the first `=` something else stands, first at place s
+abbrev after : ℕ → Checked
+after s = record { number = 3; place = s; length = 1 }
+
+ltb-suc : (m n : ℕ) → ltb (suc m) (suc n) ≡ ltb m n
+ltb-suc m n = by (ltb m n) (λ e. lt-ltb (suc m) (suc n) (omega (arith, ltb-true m n e)) ∙ sym e) (λ e. le-ltb (suc m) (suc n) (omega (arith, ltb-false m n e)) ∙ sym e)
+
+eqb-suc : (m n : ℕ) → eqb (suc m) (suc n) ≡ eqb m n
+eqb-suc m n = by (eqb m n) (λ e. eq-eqb (suc m) (suc n) (ap suc (eqb-true m n e)) ∙ sym e) (λ e. ne-eqb (suc m) (suc n) (λ z. eqb-false m n e (omega arith)) ∙ sym e)
+
+-- `=` is no blank
+equals-solid : (x : ℕ) → equals x ≡ true → blank x ≡ false
+equals-solid x e = rw (eqb-true x (code "=") e)
+
+-- What the loops ask for.
+
+-- v is what the bytes before place i tell, and with those from there on the answer is w
+pub record Known (b : List ℕ) (i : ℕ) (v w : Checked) : Type 0 where
+  pub so : w ≡ allSeen v i (drop i b)
+
+pub known-end : {b : List ℕ} {i : ℕ} {v w : Checked} → Known b i v w → length b ≤ i → v ≡ w
+unfolding allSeen
+known-end {b} {i} {v} {w} t h = sym (t .so ∙ rw (drop-of-length-le b h))
+
+pub known-again : {b : List ℕ} {i k : ℕ} {v w r : Checked} → Known b i v w → i < length b → IsKind (getD b i 0) k → r ≡ seenAt v i k → Known b (i + 1) r w
+unfolding allSeen
+known-again {b} {i} {k} {v} {w} {r} t h is e = record { so = t .so ∙ rw (e, is .is, add-one, drop-cons b i 0 h) }
+
+-- four bytes a turn
+module _ {b : List ℕ} {i k l m n : ℕ} {v w : Checked} (t : Known b i v w) (within : 3 < length b - i) (first : IsKind (getD b i 0) k)
+    (second : IsKind (getD b (i + 1) 0) l) (third : IsKind (getD b (i + 2) 0) m) (fourth : IsKind (getD b (i + 3) 0) n) where
+  pub four-again : {r : Checked} → r ≡ fourSeen v i k l m n → Known b (i + 4) r w
+  unfolding fourSeen
+  four-again e =
+      let two : i + 1 + 1 ≡ i + 2 = omega arith in
+      let three : i + 2 + 1 ≡ i + 3 = omega arith in
+      let four : i + 3 + 1 ≡ i + 4 = omega arith in
+      let one : Known b (i + 1) (seenAt v i k) w = known-again t (omega arith) first refl in
+      let past-two = known-again one (omega arith) second refl in
+      let past-three = known-again (rw two at past-two) (omega arith) third refl in
+      rw (e, ← four) (known-again (rw three at past-three) (omega arith) fourth refl)
+
+-- a byte of a word or a blank changes nothing where no `=` was seen
+seen-quiet : (n p k : ℕ) → k < code "=" → seenAt (noEquals n) p k ≡ noEquals n
+unfolding seenAt
+seen-quiet n p k h = rw (ne-eqb k (code "?") (λ z. omega arith), ne-eqb k (code "=") (λ z. omega arith))
+
+-- so four kinds whose sum leaves room for neither `=` nor `?`
+pub four-quiet : {b : List ℕ} {i k l m n size : ℕ} {w : Checked} → Known b i (noEquals size) w → 3 < length b - i → IsKind (getD b i 0) k → IsKind (getD b (i + 1) 0) l
+    → IsKind (getD b (i + 2) 0) m → IsKind (getD b (i + 3) 0) n → k + l + (m + n) ≤ 4 * code "." → Known b (i + 4) (noEquals size) w
+unfolding fourSeen
+four-quiet {b} {i} {k} {l} {m} {n} {size} t within first second third fourth low =
+    four-again t within first second third fourth
+    (sym (rw (seen-quiet size i k (omega arith), seen-quiet size (i + 1) l (omega arith), seen-quiet size (i + 2) m (omega arith), seen-quiet size (i + 3) n (omega arith))))
+
+-- nor does any byte where one was not allowed
+seen-settled : (v : Checked) (p k : ℕ) → v .number ≡ 2 → seenAt v p k ≡ v
+unfolding seenAt
+seen-settled v p k e = rw (eq-eqb (v .number) 2 e)
+
+pub all-settled : (v : Checked) (p : ℕ) (xs : List ℕ) → v .number ≡ 2 → allSeen v p xs ≡ v
+unfolding allSeen
+all-settled v p [] e = refl
+all-settled v p (x ∷ xs) e = rw (seen-settled v p (kindOf x) e, all-settled v (suc p) xs e)
+
+-- One byte.
+
+module _ (p x : ℕ) where
+  barred-seen : (v : Checked) → (v .number ≡ 2 → ⊥) → barred x ≡ true → seenAt v p (kindOf x) ≡ notAllowed p
+  unfolding seenAt kindOf
+  barred-seen v other e = rw (ne-eqb (v .number) 2 other, e)
+
+  -- behind what stands after the `=`
+  after-seen : (s : ℕ) → barred x ≡ false → seenAt (after s) p (kindOf x) ≡ after s
+  unfolding seenAt kindOf
+  after-seen s e = by (equals x) (λ f. rw (e, f)) (λ f. by (blank x) (λ g. rw (e, f, g)) (λ g. rw (e, f, g)))
+
+  -- behind the `=`
+  blank-seen : (e : ℕ) → barred x ≡ false → blank x ≡ true → seenAt (ended e) p (kindOf x) ≡ ended e
+  unfolding seenAt kindOf
+  blank-seen q e g = by (equals x) (λ f. clash (blank x) g (equals-solid x f)) (λ f. rw (e, f, g))
+
+  solid-seen : (e : ℕ) → barred x ≡ false → blank x ≡ false → seenAt (ended e) p (kindOf x) ≡ after p
+  unfolding seenAt kindOf
+  solid-seen q e g = by (equals x) (λ f. rw (e, f)) (λ f. rw (e, f, g))
+
+  -- before the `=`
+  equals-seen : (n : ℕ) → barred x ≡ false → equals x ≡ true → seenAt (noEquals n) p (kindOf x) ≡ ended p
+  unfolding seenAt kindOf
+  equals-seen n e f = rw (e, f)
+
+  other-seen : (n : ℕ) → barred x ≡ false → equals x ≡ false → seenAt (noEquals n) p (kindOf x) ≡ noEquals n
+  unfolding seenAt kindOf
+  other-seen n e f = by (blank x) (λ g. rw (e, f, g)) (λ g. rw (e, f, g))
+
+-- All bytes.
+
+-- the first byte of xs that passes the test gives this number and its place, counted from p; else the answer is v
+unless : (ℕ → Bool) → ℕ → ℕ → List ℕ → Checked → Checked
+unless f number p xs v = pick (ltb (indexOf f xs) (length xs)) (record { number = number; place = p + indexOf f xs; length = 1 }) v
+
+module _ (f : ℕ → Bool) (number p x : ℕ) (xs : List ℕ) (v : Checked) where
+  unless-here : f x ≡ true → unless f number p (x ∷ xs) v ≡ record { number = number; place = p; length = 1 }
+  unfolding unless indexOf
+  unless-here e = rw (e, lt-ltb 0 (suc (length xs)) (omega arith), add-zero)
+
+  unless-past : f x ≡ false → unless f number p (x ∷ xs) v ≡ unless f number (suc p) xs v
+  unfolding unless indexOf
+  unless-past e = rw (e, ltb-suc (indexOf f xs) (length xs), add-suc p (indexOf f xs), suc-add p (indexOf f xs))
+
+all-after : (s p : ℕ) (xs : List ℕ) → allSeen (after s) p xs ≡ unless barred 2 p xs (after s)
+unfolding allSeen unless indexOf
+all-after s p [] = refl
+all-after s p (x ∷ xs) =
+    by (barred x)
+    (λ e. rw (barred-seen p x (after s) (λ z. omega arith) e, all-settled (notAllowed p) (suc p) xs refl, unless-here barred 2 p x xs (after s) e))
+    (λ e. rw (after-seen p x s e, all-after s (suc p) xs, unless-past barred 2 p x xs (after s) e))
+
+all-ended : (q p : ℕ) (xs : List ℕ) → allSeen (ended q) p xs ≡ unless barred 2 p xs (unless solid 3 p xs (ended q))
+unfolding allSeen unless indexOf
+all-ended q p [] = refl
+all-ended q p (x ∷ xs) =
+    let next : Checked = unless solid 3 p (x ∷ xs) (ended q) in
+    by (barred x)
+    (λ e. rw (barred-seen p x (ended q) (λ z. omega arith) e, all-settled (notAllowed p) (suc p) xs refl, unless-here barred 2 p x xs next e))
+    (λ e. by (blank x)
+    (λ g. rw (blank-seen p x q e g, all-ended q (suc p) xs, unless-past barred 2 p x xs next e, unless-past solid 3 p x xs (ended q) (ap not g)))
+    (λ g. rw (solid-seen p x q e g, all-after p (suc p) xs, unless-past barred 2 p x xs next e, unless-here solid 3 p x xs (ended q) (ap not g))))
+
+-- what the first `=` of xs, counted from place p, and what stands behind it tell: as the table has it, and byte by byte
+endOf : ℕ → ℕ → List ℕ → Checked
+endOf n p xs =
+    pick (eqb (indexOf equals xs) (length xs)) (noEquals n)
+    (pick (ltb (indexFrom solid (indexOf equals xs + 1) xs) (length xs)) (after (p + indexFrom solid (indexOf equals xs + 1) xs)) (ended (p + indexOf equals xs)))
+
+module _ (n p x : ℕ) (xs : List ℕ) where
+  end-here : equals x ≡ true → endOf n p (x ∷ xs) ≡ unless solid 3 (suc p) xs (ended p)
+  unfolding endOf unless indexOf
+  end-here f =
+      let a : ℕ = indexOf solid xs in
+      let one : 1 + a ≡ suc a = omega arith in
+      rw (f, ne-eqb 0 (suc (length xs)) (λ z. omega arith), one, ltb-suc a (length xs), add-suc p a, suc-add p a, add-zero p)
+
+  end-past : equals x ≡ false → endOf n p (x ∷ xs) ≡ endOf n (suc p) xs
+  unfolding endOf indexOf
+  end-past f =
+      let e : ℕ = indexOf equals xs in
+      let a : ℕ = indexFrom solid (e + 1) xs in
+      rw (f, eqb-suc e (length xs), suc-add e 1, suc-add (e + 1) (indexOf solid (drop (e + 1) xs)), ltb-suc a (length xs), add-suc p a, suc-add p a, add-suc p e, suc-add p e)
+
+all-none : (n p : ℕ) (xs : List ℕ) → allSeen (noEquals n) p xs ≡ unless barred 2 p xs (endOf n p xs)
+unfolding allSeen unless endOf indexOf
+all-none n p [] = refl
+all-none n p (x ∷ xs) =
+    by (barred x)
+    (λ e. rw (barred-seen p x (noEquals n) (λ z. omega arith) e, all-settled (notAllowed p) (suc p) xs refl, unless-here barred 2 p x xs (endOf n p (x ∷ xs)) e))
+    (λ e. by (equals x)
+    (λ f. rw (equals-seen p x n e f, all-ended p (suc p) xs, unless-past barred 2 p x xs (endOf n p (x ∷ xs)) e, end-here n p x xs f))
+    (λ f. rw (other-seen p x n e f, all-none n (suc p) xs, unless-past barred 2 p x xs (endOf n p (x ∷ xs)) e, end-past n p x xs f)))
+
+pub all-checks : (b : List ℕ) → (length b ≡ 0 → ⊥) → length b ≤ 2048 → allSeen (noEquals (length b)) 0 b ≡ checkOf b
+unfolding checkOf unless endOf
+all-checks b some fits =
+    all-none (length b) 0 b
+    ∙ rw (ne-eqb (length b) 0 some, le-ltb 2048 (length b) fits, zero-add (barredAt b), zero-add (afterAt b), zero-add (equalsAt b))

@@ -1,0 +1,30 @@
+-- The answer of `check` as it grows from byte to byte: what the bytes seen so far tell. No contract of a public function cites these.
+use mathlib.Core.List.{List, [], _∷_}
+use Prim.Native.Char.{code}
+use Prim.Native.Nat.{ℕ, suc, _+_}
+use lib.Dec.{eqb}
+use Rattle.lists.specs.Choice.{pick, either}
+use Rattle.words.specs.Kinds.{kindOf}
+use Rattle.words.specs.declared.Checked.{Checked}
+
+-- of n bytes no `=` was seen so far
+abbrev pub noEquals : ℕ → Checked
+noEquals n = record { number = 3; place = n; length = 0 }
+
+-- the answer so far, when a byte of kind k was seen at place p too: the first byte that is not allowed settles it; behind the first `=`
+-- (number 0) only blanks may stand, and what else stands first there (number 3, length 1) is the answer unless a byte is not allowed
+unfoldable pub seenAt : Checked → ℕ → ℕ → Checked
+seenAt known p k =
+    pick (eqb (known .number) 2) known
+    (pick (eqb k (code "?")) (record { number = 2; place = p; length = 1 })
+    (pick (eqb (known .number) 0) (pick (eqb k (code "-")) known (record { number = 3; place = p; length = 1 }))
+    (pick (eqb k (code "=")) (pick (eqb (known .length) 1) known (record { number = 0; place = p; length = 0 })) known)))
+
+-- the same for the four bytes of a turn
+unfoldable pub fourSeen : Checked → ℕ → ℕ → ℕ → ℕ → ℕ → Checked
+fourSeen known p k l m n = seenAt (seenAt (seenAt (seenAt known p k) (p + 1) l) (p + 2) m) (p + 3) n
+
+-- the same for bytes from place p on
+unfoldable pub allSeen : Checked → ℕ → List ℕ → Checked
+allSeen known p [] = known
+allSeen known p (x ∷ xs) = allSeen (seenAt known p (kindOf x)) (suc p) xs
