@@ -1,4 +1,4 @@
-//! decoder [read] | generate SEED COUNT | tables SEED COUNT FOLDER | judge | compare SEED COUNT PROGRAM [ARGUMENT...]
+//! decoder [read] | generate SEED COUNT | tables SEED COUNT FOLDER | turns FOLDER | judge | compare SEED COUNT PROGRAM [ARGUMENT...]
 //! | replay | script SEED INDEX | boards SEED COUNT PROGRAM [ARGUMENT...]
 
 mod boards;
@@ -16,6 +16,7 @@ mod shapes;
 mod table;
 #[cfg(test)]
 mod tests;
+mod turns;
 mod words;
 
 use std::io::{Read, Write};
@@ -39,7 +40,8 @@ fn main() {
                 println!("{:8} b\"{}\"", generate::CLASSES[class], text.escape_ascii());
             }
         }
-        ["tables", seed, count, folder] => table::write(number(seed), number(count), folder).expect("the folder"),
+        ["tables", seed, count, folder] => table::random(number(seed), number(count), folder).expect("the folder"),
+        ["turns", folder] => table::turns(folder).expect("the folder"),
         ["judge"] => print!("{}", table::judge(&std::io::read_to_string(std::io::stdin()).expect("standard input"))),
         ["compare", seed, count, program, ref rest @ ..] => {
             if !compare::compare(program, rest, number(seed), number(count)) {
@@ -65,7 +67,7 @@ fn main() {
 }
 
 fn usage() -> ! {
-    eprintln!("usage: decoder [read] | generate SEED COUNT | tables SEED COUNT FOLDER | judge | compare SEED COUNT PROGRAM [ARGUMENT...]");
-    eprintln!("               | replay | script SEED INDEX | boards SEED COUNT PROGRAM [ARGUMENT...]");
+    eprintln!("usage: decoder [read] | generate SEED COUNT | tables SEED COUNT FOLDER | turns FOLDER | judge");
+    eprintln!("               | compare SEED COUNT PROGRAM [ARGUMENT...] | replay | script SEED INDEX | boards SEED COUNT PROGRAM [ARGUMENT...]");
     exit(2)
 }

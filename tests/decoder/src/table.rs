@@ -2,9 +2,10 @@
 
 use crate::decode::{decode, Reply};
 use crate::generate::{bulletin, CLASSES};
+use crate::turns;
 
 /// Bytes of a table, within the room that `examples` has.
-const ROOM: usize = 120_000;
+const ROOM: usize = 250_000;
 
 /// Bytes as `examples` takes them: `\s` for 128 spaces, `\xHH` for what is no ASCII and for the two signs that the table itself has.
 fn escaped(text: &[u8]) -> String {
@@ -36,18 +37,27 @@ fn texts(bulletin: &[u8], reply: &Reply) -> String {
     format!("{}|{}", escaped(bulletin), escaped(&reply.canonical))
 }
 
-/// The row of this bulletin.
-pub fn row(seed: u64, index: u64) -> String {
-    let (class, text) = bulletin(seed, index);
-    let reply = decode(&text);
-    format!("{}-{index} {} {}\n", CLASSES[class], reply.numbers(), texts(&text, &reply))
+fn named(name: &str, text: &[u8]) -> String {
+    let reply = decode(text);
+    format!("{name} {} {}\n", reply.numbers(), texts(text, &reply))
 }
 
-/// Writes the tables FOLDER/0, FOLDER/1, …
-pub fn write(seed: u64, count: u64, folder: &str) -> std::io::Result<()> {
+/// The row of this random bulletin.
+pub fn row(seed: u64, index: u64) -> String {
+    let (class, text) = bulletin(seed, index);
+    named(&format!("{}-{index}", CLASSES[class]), &text)
+}
+
+/// The rows of the bulletins of this length, with what stands at the ends of turns.
+fn rows(length: usize) -> impl Iterator<Item = String> {
+    let texts = turns::bulletins(length).into_iter().enumerate();
+    texts.map(move |(k, text)| named(&format!("length-{length}-{k}"), &text))
+}
+
+/// Writes these rows to the tables FOLDER/0, FOLDER/1, …
+fn write(rows: impl Iterator<Item = String>, folder: &str) -> std::io::Result<()> {
     let (mut table, mut number) = (String::new(), 0);
-    for index in 0..count {
-        let line = row(seed, index);
+    for line in rows {
         if table.len() + line.len() > ROOM {
             std::fs::write(format!("{folder}/{number}"), &table)?;
             table.clear();
@@ -56,6 +66,16 @@ pub fn write(seed: u64, count: u64, folder: &str) -> std::io::Result<()> {
         table.push_str(&line);
     }
     std::fs::write(format!("{folder}/{number}"), &table)
+}
+
+/// Tables of this many random bulletins.
+pub fn random(seed: u64, count: u64, folder: &str) -> std::io::Result<()> {
+    write((0..count).map(|index| row(seed, index)), folder)
+}
+
+/// Tables of bulletins of every length, up to the first that is too long.
+pub fn turns(folder: &str) -> std::io::Result<()> {
+    write((0..=2049).flat_map(rows), folder)
 }
 
 /// What stands for a byte in a table, and how long that is.

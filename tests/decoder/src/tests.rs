@@ -5,6 +5,7 @@ use crate::script::replay;
 use crate::scripts::script;
 use crate::shapes::{latitude, longitude};
 use crate::table::{judge, row};
+use crate::turns;
 use crate::words::cut;
 
 const SAMPLE: &str = "WSZZ31 QAAA 180830\r\nQBBB SIGMET 1 VALID 180830/181230 QAAA-\r\n\
@@ -182,6 +183,28 @@ fn rows_are_read_back() {
     let refused = sample.replace("E114", "E181");
     assert_eq!(judge(&format!("a 9 100 4 {refused}\n")), "a: 9 100 4 ok\n1 ok, 0 wrong\n");
     assert_eq!(judge(&format!("a 9 100 1 {refused}\n")), "a: 9 100 4 WRONG\n0 ok, 1 wrong\n");
+}
+
+/// Nine bytes are two turns and a byte: something stands at 0, 3, 4, 7 and 8.
+#[test]
+fn ends_of_turns() {
+    let all = turns::bulletins(9);
+    let replies: Vec<(&str, String)> = all.iter().map(|text| (std::str::from_utf8(text).unwrap_or("no ASCII"), decode(text).numbers())).collect();
+    for (text, reply) in [
+        ("AAAAAAAAA", "3 9 0"),
+        ("a        ", "2 0 1"),
+        ("AAAAAAAAa", "2 8 1"),
+        ("=        ", "4 0 1"),
+        ("AAA=     ", "4 0 3"),
+        ("AAAAAAA= ", "4 0 7"),
+        ("AAA=A    ", "3 4 1"),
+        ("AAA=   = ", "3 7 1"),
+        ("AAA=A   >", "2 8 1"),
+        ("AAAAAAA=A", "3 8 1"),
+    ] {
+        assert!(replies.contains(&(text, reply.to_string())), "{text}: {reply}");
+    }
+    assert_eq!(turns::bulletins(0), [b""]);
 }
 
 /// Days counted month by month.
