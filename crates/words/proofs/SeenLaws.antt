@@ -17,7 +17,7 @@ use Rattle.lists.proofs.Choice.{by, clash}
 use Rattle.words.specs.Bytes.{blank, solid, equals, barred}
 use Rattle.words.specs.Check.{checkOf, barredAt, equalsAt, afterAt}
 use Rattle.words.specs.Kinds.{kindOf, IsKind}
-use Rattle.words.specs.Seen.{noEquals, seenAt, fourSeen, allSeen}
+use Rattle.words.specs.Seen.{noEquals, seenAt, mattersFrom, fourSeen, allSeen}
 use Rattle.words.specs.declared.Checked.{Checked}
 
 -- the answers so far, beside `noEquals`: a byte at place p is not allowed
@@ -70,20 +70,30 @@ module _ {b : List ℕ} {i k l m n : ℕ} {v w : Checked} (t : Known b i v w) (w
       let past-three = known-again (rw two at past-two) (omega arith) third refl in
       rw (e, ← four) (known-again (rw three at past-three) (omega arith) fourth refl)
 
--- a byte of a word or a blank changes nothing where no `=` was seen
-seen-quiet : (n p k : ℕ) → k < code "=" → seenAt (noEquals n) p k ≡ noEquals n
-unfolding seenAt
-seen-quiet n p k h = rw (ne-eqb k (code "?") (λ z. omega arith), ne-eqb k (code "=") (λ z. omega arith))
+-- a byte of a lesser kind than matters changes nothing
+seen-quiet : (v : Checked) (p : ℕ) {x k : ℕ} → IsKind x k → k < mattersFrom v → seenAt v p k ≡ v
+unfolding seenAt mattersFrom
+seen-quiet v p {x} {k} is h =
+    by (eqb (v .number) 2) (λ two. rw two)
+    (λ other. by (eqb (v .number) 0)
+    (λ ended. let low : k < code "." = rw ended at h in rw (other, ne-eqb k (code "?") (λ z. omega arith), ended, eq-eqb k (code "-") (omega (arith, is .least))))
+    (λ unended. by (eqb (v .length) 1)
+    (λ one. let low : k < code "?" = rw (unended, one) at h in rw (other, ne-eqb k (code "?") (λ z. omega arith), unended, one) (by (eqb k (code "=")) (λ e. rw e) (λ e. rw e)))
+    (λ none. let low : k < code "=" = rw (unended, none) at h in rw (other, ne-eqb k (code "?") (λ z. omega arith), unended, ne-eqb k (code "=") (λ z. omega arith)))))
 
--- so four kinds whose sum leaves room for neither `=` nor `?`
+pub known-quiet : {b : List ℕ} {i k : ℕ} {v w : Checked} → Known b i v w → i < length b → IsKind (getD b i 0) k → k < mattersFrom v → Known b (i + 1) v w
+known-quiet {b} {i} {k} {v} {w} t h is low = known-again t h is (sym (seen-quiet v i is low))
+
+-- four kinds whose sum leaves room for neither `=` nor `?`
 pub four-quiet : {b : List ℕ} {i k l m n size : ℕ} {w : Checked} → Known b i (noEquals size) w → 3 < length b - i → IsKind (getD b i 0) k → IsKind (getD b (i + 1) 0) l
     → IsKind (getD b (i + 2) 0) m → IsKind (getD b (i + 3) 0) n → k + l + (m + n) ≤ 4 * code "." → Known b (i + 4) (noEquals size) w
-unfolding fourSeen
+unfolding fourSeen mattersFrom
 four-quiet {b} {i} {k} {l} {m} {n} {size} t within first second third fourth low =
+    let known : Checked = noEquals size in
     four-again t within first second third fourth
-    (sym (rw (seen-quiet size i k (omega arith), seen-quiet size (i + 1) l (omega arith), seen-quiet size (i + 2) m (omega arith), seen-quiet size (i + 3) n (omega arith))))
+    (sym (rw (seen-quiet known i first (omega arith), seen-quiet known (i + 1) second (omega arith), seen-quiet known (i + 2) third (omega arith), seen-quiet known (i + 3) fourth (omega arith))))
 
--- nor does any byte where one was not allowed
+-- where a byte was not allowed no other changes anything
 seen-settled : (v : Checked) (p k : ℕ) → v .number ≡ 2 → seenAt v p k ≡ v
 unfolding seenAt
 seen-settled v p k e = rw (eq-eqb (v .number) 2 e)
@@ -92,6 +102,9 @@ pub all-settled : (v : Checked) (p : ℕ) (xs : List ℕ) → v .number ≡ 2 �
 unfolding allSeen
 all-settled v p [] e = refl
 all-settled v p (x ∷ xs) e = rw (seen-settled v p (kindOf x) e, all-settled v (suc p) xs e)
+
+pub known-settled : {b : List ℕ} {i : ℕ} {v w : Checked} → Known b i v w → v .number ≡ 2 → v ≡ w
+known-settled {b} {i} {v} {w} t e = sym (t .so ∙ all-settled v i (drop i b) e)
 
 -- One byte.
 

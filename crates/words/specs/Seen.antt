@@ -20,6 +20,11 @@ seenAt known p k =
     (pick (eqb (known .number) 0) (pick (eqb k (code "-")) known (record { number = 3; place = p; length = 1 }))
     (pick (eqb k (code "=")) (pick (eqb (known .length) 1) known (record { number = 0; place = p; length = 0 })) known)))
 
+-- the least kind that can change what is known: behind the `=` that of a word, behind another byte there that of a byte not allowed, and
+-- before the `=` that of `=`
+unfoldable pub mattersFrom : Checked → ℕ
+mattersFrom known = pick (eqb (known .number) 0) (code ".") (pick (eqb (known .length) 1) (code "?") (code "="))
+
 -- the same for the four bytes of a turn
 unfoldable pub fourSeen : Checked → ℕ → ℕ → ℕ → ℕ → ℕ → Checked
 fourSeen known p k l m n = seenAt (seenAt (seenAt (seenAt known p k) (p + 1) l) (p + 2) m) (p + 3) n

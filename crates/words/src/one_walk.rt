@@ -3,7 +3,7 @@ ghost use mathlib.Core.Path.{_≡_};
 ghost use Prim.Native.Nat.{_+_, _≤_};
 ghost use lib.ListN.{length, drop};
 ghost use Rattle.words.specs.Kinds.{Kinds};
-ghost use Rattle.words.specs.Seen.{noEquals, seenAt, fourSeen, allSeen};
+ghost use Rattle.words.specs.Seen.{noEquals, seenAt, mattersFrom, fourSeen, allSeen};
 use crate::Checked;
 use crate::table::BARRED;
 use crate::table::BLANK;
@@ -59,18 +59,39 @@ fn turn(known: Checked, place: usize, k0: u8, k1: u8, k2: u8, k3: u8) -> Checked
     seen(three, place + 3, k3)
 }
 
+// The least kind of byte that can change what is known.
+fn matters(known: Checked) -> u8
+    ensures { λ r. ⌜ r ≡ mattersFrom known ⌝ }
+{
+    if known.number == 0 {
+        return WORD;
+    }
+    if known.length == 1 {
+        return BARRED;
+    }
+    EQUALS
+}
+
 // The same for all bytes from a place on.
 fn rest(b: &[u8], kinds: &[u8; 256], from: usize, known: Checked) -> Checked
     requires { ⌜ Kinds (now kinds) ⌝ }
     ensures { λ r. ⌜ r ≡ allSeen known from (drop from (now (b .entry))) ⌝ }
 {
+    if known.number == 2 {
+        return known;
+    }
     let mut answer = known;
+    let mut least = matters(answer);
     let mut i = from;
     while i < b.len() {
-        if answer.number == 2 {
-            return answer;
+        let kind = kind_of(kinds, b[i]);
+        if least <= kind {
+            answer = seen(answer, i, kind);
+            if answer.number == 2 {
+                return answer;
+            }
+            least = matters(answer);
         }
-        answer = seen(answer, i, kind_of(kinds, b[i]));
         i += 1;
     }
     answer
