@@ -1,7 +1,7 @@
 -- The rule of the table, proved once over the whole of it, and what a kind tells.
 use mathlib.Core.Bool.{Bool, true, false}
 use mathlib.Core.List.{List, [], _∷_}
-use mathlib.Core.Path.{_≡_, refl, ap, sym, _∙_}
+use mathlib.Core.Path.{_≡_, ap, sym, _∙_}
 use Prim.Native.Char.{code}
 use Prim.Native.Nat.{ℕ, zero, suc, _+_, _≤_, _<_}
 use native.Mathlib.Nat.{add-zero, zero-add, add-suc, suc-add, le-of-suc-le-suc, not-suc-le-zero}
@@ -29,7 +29,7 @@ pub kinds-right : (table : List ℕ) → length table ≡ 256 → kindsFrom 0 ta
 kinds-right table long t = record { right = λ x h. kinds-from 0 table t x (omega arith) ∙ ap kindOf (zero-add x) }
 
 -- a claim about `kindOf x` is one for each of the four kinds
-pub kind-cases : (A : ℕ → Type 0) (x : ℕ) → (barred x ≡ true → A (code "?")) → (barred x ≡ false → equals x ≡ true → A (code "="))
+kind-cases : (A : ℕ → Type 0) (x : ℕ) → (barred x ≡ true → A (code "?")) → (barred x ≡ false → equals x ≡ true → A (code "="))
     → (barred x ≡ false → equals x ≡ false → blank x ≡ true → A (code "-")) → (barred x ≡ false → equals x ≡ false → blank x ≡ false → A (code "."))
     → A (kindOf x)
 unfolding kindOf

@@ -3,6 +3,7 @@ pub mod Walk
 pub mod Refusals
 pub mod KindLaws
 pub mod SeenLaws
+pub mod KnownLaws
 pub mod Words
 pub mod NextWord
 pub mod Determined

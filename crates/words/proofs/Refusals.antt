@@ -1,8 +1,8 @@
--- The refusal table, numbers 1 to 3, one law to a line: what `checkOf` is where the facts of that line hold.
+-- The refusal table, numbers 1 to 3: its first and its last line, as code and texts meet them, and what `checkOf` tells.
 use mathlib.Core.Bool.{true, false}
 use mathlib.Core.List.{List, [], _∷_, _++_}
 use mathlib.Core.Path.{_≡_, refl, sym, _∙_}
-use Prim.Native.Nat.{ℕ, suc, _+_, _-_, _≤_, _<_, zero-le}
+use Prim.Native.Nat.{ℕ, suc, _+_, _≤_, _<_, zero-le}
 use native.Mathlib.Nat.{add-zero}
 use native.Mathlib.Numerals.{add-one}
 use native.Mathlib.Omega.{arith}
@@ -26,26 +26,11 @@ pub refused-long : (b : List ℕ) → (length b ≡ 0 → ⊥) → 2048 < length
 unfolding checkOf
 refused-long b some h = rw (ne-eqb (length b) 0 some, lt-ltb 2048 (length b) h)
 
-module _ (b : List ℕ) (some : length b ≡ 0 → ⊥) (fits : length b ≤ 2048) where
-  pub refused-barred : {r : ℕ} → r ≡ barredAt b → r < length b → _≡_ {A = Checked} (record { number = 2; place = r; length = 1 }) (checkOf b)
-  unfolding checkOf
-  refused-barred e h = rw (ne-eqb (length b) 0 some, le-ltb 2048 (length b) fits, ← e, lt-ltb _ (length b) h)
-
-  pub refused-no-equals : {r s : ℕ} → r ≡ barredAt b → length b ≤ r → s ≡ equalsAt b → s ≡ length b
-      → _≡_ {A = Checked} (record { number = 3; place = length b; length = 0 }) (checkOf b)
-  unfolding checkOf
-  refused-no-equals e h f k = rw (ne-eqb (length b) 0 some, le-ltb 2048 (length b) fits, ← e, le-ltb _ (length b) h, ← f, eq-eqb _ (length b) k)
-
-  module _ {r s t : ℕ} (e : r ≡ barredAt b) (h : length b ≤ r) (f : s ≡ equalsAt b) (k : s ≡ length b → ⊥) (g : t ≡ indexFrom solid (s + 1) b) where
-    pub refused-after : t < length b → _≡_ {A = Checked} (record { number = 3; place = t; length = 1 }) (checkOf b)
-    unfolding checkOf
-    refused-after l =
-        rw (ne-eqb (length b) 0 some, le-ltb 2048 (length b) fits, ← e, le-ltb r (length b) h, ← f, ne-eqb s (length b) k, ← g, lt-ltb t (length b) l)
-
-    pub not-refused : length b ≤ t → _≡_ {A = Checked} (record { number = 0; place = s; length = 0 }) (checkOf b)
-    unfolding checkOf
-    not-refused l =
-        rw (ne-eqb (length b) 0 some, le-ltb 2048 (length b) fits, ← e, le-ltb r (length b) h, ← f, ne-eqb s (length b) k, ← g, le-ltb t (length b) l)
+pub not-refused : (b : List ℕ) → (length b ≡ 0 → ⊥) → length b ≤ 2048 → {r s t : ℕ} → r ≡ barredAt b → length b ≤ r → s ≡ equalsAt b → (s ≡ length b → ⊥)
+    → t ≡ indexFrom solid (s + 1) b → length b ≤ t → _≡_ {A = Checked} (record { number = 0; place = s; length = 0 }) (checkOf b)
+unfolding checkOf
+not-refused b some fits {r} {s} {t} e h f k g l =
+    rw (ne-eqb (length b) 0 some, le-ltb 2048 (length b) fits, ← e, le-ltb r (length b) h, ← f, ne-eqb s (length b) k, ← g, le-ltb t (length b) l)
 
 -- What `checkOf` tells.
 

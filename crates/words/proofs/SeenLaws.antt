@@ -1,26 +1,24 @@
--- The answer that grows from byte to byte is the one of the refusal table.
+-- What is known when all bytes were seen is the answer of the refusal table.
 use mathlib.Core.Bool.{Bool, true, false, not}
 use mathlib.Core.List.{List, [], _∷_}
 use mathlib.Core.Path.{_≡_, refl, sym, ap, _∙_}
 use Prim.Native.Char.{code}
-use Prim.Native.Nat.{ℕ, suc, _+_, _-_, _*_, _≤_, _<_}
+use Prim.Native.Nat.{ℕ, suc, _+_, _≤_}
 use native.Mathlib.Nat.{add-zero, zero-add, add-suc, suc-add}
-use native.Mathlib.Numerals.{add-one}
 use native.Mathlib.Omega.{arith}
 use lib.Dec.{ltb, eqb}
-use lib.ListN.{length, drop, getD, drop-of-length-le}
-use lib.Seq.{drop-cons}
+use lib.ListN.{length, drop}
 use borrow.Author.Tests.{eq-eqb, ne-eqb, lt-ltb, le-ltb, eqb-true, eqb-false, ltb-true, ltb-false}
 use Rattle.lists.specs.Choice.{pick}
 use Rattle.lists.specs.Lists.{indexOf, indexFrom}
 use Rattle.lists.proofs.Choice.{by, clash}
 use Rattle.words.specs.Bytes.{blank, solid, equals, barred}
 use Rattle.words.specs.Check.{checkOf, barredAt, equalsAt, afterAt}
-use Rattle.words.specs.Kinds.{kindOf, IsKind}
-use Rattle.words.specs.Seen.{noEquals, seenAt, mattersFrom, fourSeen, allSeen}
+use Rattle.words.specs.Kinds.{kindOf}
+use Rattle.words.specs.Seen.{noEquals, seenAt, allSeen}
 use Rattle.words.specs.declared.Checked.{Checked}
 
--- the answers so far, beside `noEquals`: a byte at place p is not allowed
+-- what can be known, beside `noEquals`: a byte at place p is not allowed
 abbrev notAllowed : ℕ → Checked
 notAllowed p = record { number = 2; place = p; length = 1 }
 
@@ -42,57 +40,6 @@ eqb-suc m n = by (eqb m n) (λ e. eq-eqb (suc m) (suc n) (ap suc (eqb-true m n e
 equals-solid : (x : ℕ) → equals x ≡ true → blank x ≡ false
 equals-solid x e = rw (eqb-true x (code "=") e)
 
--- What the loops ask for.
-
--- v is what the bytes before place i tell, and with those from there on the answer is w
-pub record Known (b : List ℕ) (i : ℕ) (v w : Checked) : Type 0 where
-  pub so : w ≡ allSeen v i (drop i b)
-
-pub known-end : {b : List ℕ} {i : ℕ} {v w : Checked} → Known b i v w → length b ≤ i → v ≡ w
-unfolding allSeen
-known-end {b} {i} {v} {w} t h = sym (t .so ∙ rw (drop-of-length-le b h))
-
-pub known-again : {b : List ℕ} {i k : ℕ} {v w r : Checked} → Known b i v w → i < length b → IsKind (getD b i 0) k → r ≡ seenAt v i k → Known b (i + 1) r w
-unfolding allSeen
-known-again {b} {i} {k} {v} {w} {r} t h is e = record { so = t .so ∙ rw (e, is .is, add-one, drop-cons b i 0 h) }
-
--- four bytes a turn
-module _ {b : List ℕ} {i k l m n : ℕ} {v w : Checked} (t : Known b i v w) (within : 3 < length b - i) (first : IsKind (getD b i 0) k)
-    (second : IsKind (getD b (i + 1) 0) l) (third : IsKind (getD b (i + 2) 0) m) (fourth : IsKind (getD b (i + 3) 0) n) where
-  pub four-again : {r : Checked} → r ≡ fourSeen v i k l m n → Known b (i + 4) r w
-  unfolding fourSeen
-  four-again e =
-      let two : i + 1 + 1 ≡ i + 2 = omega arith in
-      let three : i + 2 + 1 ≡ i + 3 = omega arith in
-      let four : i + 3 + 1 ≡ i + 4 = omega arith in
-      let one : Known b (i + 1) (seenAt v i k) w = known-again t (omega arith) first refl in
-      let past-two = known-again one (omega arith) second refl in
-      let past-three = known-again (rw two at past-two) (omega arith) third refl in
-      rw (e, ← four) (known-again (rw three at past-three) (omega arith) fourth refl)
-
--- a byte of a lesser kind than matters changes nothing
-seen-quiet : (v : Checked) (p : ℕ) {x k : ℕ} → IsKind x k → k < mattersFrom v → seenAt v p k ≡ v
-unfolding seenAt mattersFrom
-seen-quiet v p {x} {k} is h =
-    by (eqb (v .number) 2) (λ two. rw two)
-    (λ other. by (eqb (v .number) 0)
-    (λ ended. let low : k < code "." = rw ended at h in rw (other, ne-eqb k (code "?") (λ z. omega arith), ended, eq-eqb k (code "-") (omega (arith, is .least))))
-    (λ unended. by (eqb (v .length) 1)
-    (λ one. let low : k < code "?" = rw (unended, one) at h in rw (other, ne-eqb k (code "?") (λ z. omega arith), unended, one) (by (eqb k (code "=")) (λ e. rw e) (λ e. rw e)))
-    (λ none. let low : k < code "=" = rw (unended, none) at h in rw (other, ne-eqb k (code "?") (λ z. omega arith), unended, ne-eqb k (code "=") (λ z. omega arith)))))
-
-pub known-quiet : {b : List ℕ} {i k : ℕ} {v w : Checked} → Known b i v w → i < length b → IsKind (getD b i 0) k → k < mattersFrom v → Known b (i + 1) v w
-known-quiet {b} {i} {k} {v} {w} t h is low = known-again t h is (sym (seen-quiet v i is low))
-
--- four kinds whose sum leaves room for neither `=` nor `?`
-pub four-quiet : {b : List ℕ} {i k l m n size : ℕ} {w : Checked} → Known b i (noEquals size) w → 3 < length b - i → IsKind (getD b i 0) k → IsKind (getD b (i + 1) 0) l
-    → IsKind (getD b (i + 2) 0) m → IsKind (getD b (i + 3) 0) n → k + l + (m + n) ≤ 4 * code "." → Known b (i + 4) (noEquals size) w
-unfolding fourSeen mattersFrom
-four-quiet {b} {i} {k} {l} {m} {n} {size} t within first second third fourth low =
-    let known : Checked = noEquals size in
-    four-again t within first second third fourth
-    (sym (rw (seen-quiet known i first (omega arith), seen-quiet known (i + 1) second (omega arith), seen-quiet known (i + 2) third (omega arith), seen-quiet known (i + 3) fourth (omega arith))))
-
 -- where a byte was not allowed no other changes anything
 seen-settled : (v : Checked) (p k : ℕ) → v .number ≡ 2 → seenAt v p k ≡ v
 unfolding seenAt
@@ -102,9 +49,6 @@ pub all-settled : (v : Checked) (p : ℕ) (xs : List ℕ) → v .number ≡ 2 �
 unfolding allSeen
 all-settled v p [] e = refl
 all-settled v p (x ∷ xs) e = rw (seen-settled v p (kindOf x) e, all-settled v (suc p) xs e)
-
-pub known-settled : {b : List ℕ} {i : ℕ} {v w : Checked} → Known b i v w → v .number ≡ 2 → v ≡ w
-known-settled {b} {i} {v} {w} t e = sym (t .so ∙ all-settled v i (drop i b) e)
 
 -- One byte.
 

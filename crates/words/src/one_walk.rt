@@ -1,9 +1,11 @@
-// The one walk of `check`, which loads each byte once: four a turn up to the first that is `=` or not allowed, then one by one.
+// The one walk of `check`, which loads each byte once: four a turn up to the first turn that has a `=` or a byte that is not allowed, and from
+// there on one by one. What is known on the way is the answer as far as the bytes before tell it: there is no `=` (number 3, length 0); behind
+// the first `=` stand only blanks (0); something else stands there (3, length 1); a byte is not allowed (2), and that settles it.
 ghost use mathlib.Core.Path.{_≡_};
 ghost use Prim.Native.Nat.{_+_, _≤_};
 ghost use lib.ListN.{length, drop};
 ghost use Rattle.words.specs.Kinds.{Kinds};
-ghost use Rattle.words.specs.Seen.{noEquals, seenAt, mattersFrom, fourSeen, allSeen};
+ghost use Rattle.words.specs.Seen.{noEquals, seenAt, fourSeen, allSeen, mattersFrom};
 use crate::Checked;
 use crate::table::BARRED;
 use crate::table::BLANK;
@@ -11,7 +13,7 @@ use crate::table::EQUALS;
 use crate::table::WORD;
 use crate::table::kind_of;
 
-// The answer so far, when a byte of this kind was seen at this place too.
+// What is known when a byte of this kind was seen at this place, too.
 fn seen(known: Checked, place: usize, kind: u8) -> Checked
     ensures { λ r. ⌜ r ≡ seenAt known place kind ⌝ }
 {
@@ -48,7 +50,7 @@ fn seen(known: Checked, place: usize, kind: u8) -> Checked
     }
 }
 
-// The same for the four bytes of a turn.
+// The same of the four bytes of a turn, from this place on.
 fn turn(known: Checked, place: usize, k0: u8, k1: u8, k2: u8, k3: u8) -> Checked
     requires { ⌜ place + 3 ≤ 18446744073709551615 ⌝ }
     ensures { λ r. ⌜ r ≡ fourSeen known place k0 k1 k2 k3 ⌝ }
@@ -72,7 +74,7 @@ fn matters(known: Checked) -> u8
     EQUALS
 }
 
-// The same for all bytes from a place on.
+// What is known when all bytes from a place on were seen, too.
 fn rest(b: &[u8], kinds: &[u8; 256], from: usize, known: Checked) -> Checked
     requires { ⌜ Kinds (now kinds) ⌝ }
     ensures { λ r. ⌜ r ≡ allSeen known from (drop from (now (b .entry))) ⌝ }
@@ -97,8 +99,7 @@ fn rest(b: &[u8], kinds: &[u8; 256], from: usize, known: Checked) -> Checked
     answer
 }
 
-// The answer for all the bytes. Among the kinds of four bytes is neither `=` nor one that is not allowed where their sum is no more
-// than that of four bytes of words: `=` has more than the other three can have less.
+// The answer. Where four kinds sum up to no more than four of a word do, no byte is `=` or not allowed: three blanks do not make up for one.
 pub(crate) fn answer(b: &[u8], kinds: &[u8; 256]) -> Checked
     requires { ⌜ Kinds (now kinds) ⌝ }
     ensures { λ r. ⌜ r ≡ allSeen (noEquals (length (now (b .entry)))) 0 (now (b .entry)) ⌝ }

@@ -1,7 +1,7 @@
 // The table of the kinds of byte.
 ghost use Rattle.words.specs.Kinds.{IsKind, Kinds};
 
-// The kinds as the table draws them: a byte of a word, a blank, `=`, and a byte that is not allowed.
+// The kinds of byte as the table draws them: of a word, blank, `=`, and not allowed.
 pub(crate) const WORD: u8 = b'.';
 
 pub(crate) const BLANK: u8 = b'-';
@@ -10,7 +10,7 @@ pub(crate) const EQUALS: u8 = b'=';
 
 pub(crate) const BARRED: u8 = b'?';
 
-// Sixteen bytes to a row: those of the third row begin with the space, and the `=` stands in the fourth.
+// Sixteen bytes to a row: LF and CR stand in the first, the space begins the third, and the `=` stands in the fourth.
 const KINDS: [u8; 256] = *b"\
     ??????????-??-??\
     ????????????????\

@@ -1,10 +1,11 @@
 -- `one_walk::answer` meets its contract: no byte before place i is `=` or not allowed.
 use Prim.Native.Nat.{_-_, _≤_}
-use mathlib.Core.Path.{_≡_, refl, sym, _∙_}
+use mathlib.Core.Path.{refl}
 use native.Mathlib.Omega.{arith}
 use borrow.Author.Needs.{needs}
+use lib.ListN.{length}
 use Rattle.words.specs.Seen.{noEquals, allSeen}
-use Rattle.words.proofs.SeenLaws.{Known, four-again, four-quiet}
+use Rattle.words.proofs.KnownLaws.{Known, Turn, turn-again, turn-quiet, known-comes}
 use Rattle.words.proofs.one_walk.answer.Statement.{statement}
 use Rattle.words.proofs.one_walk.answer.Tie as tie
 
@@ -17,19 +18,27 @@ abbrev μ-loop : tie.MeasureT-loop
 loop-holds : tie.Need-loop-holds Inv-loop μ-loop
 loop-holds c = (omega arith, record { so = refl })
 
+-- after the four reads
+turn : (c : tie.After-kind-of4 Inv-loop μ-loop)
+    → Turn (c .before .before .before .before .before .before .before .before .before .before .before .args .b .now) (c .before .before .before .before .before .before .before .before .before .loop .i) (c .before .before .before .before .before .before .kind-of .result) (c .before .before .before .before .kind-of2 .result) (c .before .before .kind-of3 .result) (c .kind-of4 .result) (noEquals (length (c .before .before .before .before .before .before .before .before .before .before .before .args .b .now))) (allSeen (noEquals (length (c .before .before .before .before .before .before .before .before .before .before .before .args .b .now))) 0 (c .before .before .before .before .before .before .before .before .before .before .before .args .b .now))
+turn c =
+    record {
+      before = c .before .before .before .before .before .before .before .before .before .loop .inv .1;
+      within = omega arith;
+      first = c .before .before .before .before .before .before .kind-of .ensures;
+      second = c .before .before .before .before .kind-of2 .ensures;
+      third = c .before .before .kind-of3 .ensures;
+      fourth = c .kind-of4 .ensures;
+    }
+
 returns : tie.Need-returns Inv-loop μ-loop
-returns c =
-    let at = c .before .before .before in
-    c .rest .ensures
-    ∙ sym (four-again (at .before .before .before .before .before .before .before .before .before .loop .inv .1) (omega arith) (at .before .before .before .before .before .before .kind-of .ensures) (at .before .before .before .before .kind-of2 .ensures) (at .before .before .kind-of3 .ensures) (at .kind-of4 .ensures) (c .before .turn .ensures) .so)
+returns c = known-comes (turn-again (turn (c .before .before .before)) (c .before .turn .ensures)) (c .rest .ensures)
 
 loop-again : tie.Need-loop-again Inv-loop μ-loop
-loop-again c =
-    let at = c .before in
-    (omega arith, four-quiet (at .before .before .before .before .before .before .before .before .before .loop .inv .1) (omega arith) (at .before .before .before .before .before .before .kind-of .ensures) (at .before .before .before .before .kind-of2 .ensures) (at .before .before .kind-of3 .ensures) (at .kind-of4 .ensures) (c .if1 .left))
+loop-again c = (omega arith, turn-quiet (turn (c .before)) (c .if1 .left))
 
 returns-2 : tie.Need-returns-2 Inv-loop μ-loop
-returns-2 c = c .rest2 .ensures ∙ sym (c .before .before .loop .inv .1 .so)
+returns-2 c = known-comes (c .before .before .loop .inv .1) (c .rest2 .ensures)
 
 pub answer-spec : {M : Type 1} → statement M
 answer-spec =

@@ -6,7 +6,8 @@ use native.Mathlib.Omega.{arith}
 use borrow.Author.Needs.{needs}
 use lib.ListN.{length, drop}
 use Rattle.words.specs.Seen.{mattersFrom, allSeen}
-use Rattle.words.proofs.SeenLaws.{Known, known-again, known-quiet, known-settled, known-end, all-settled}
+use Rattle.words.proofs.KnownLaws.{Known, known-again, known-quiet, known-settled, known-end}
+use Rattle.words.proofs.SeenLaws.{all-settled}
 use Rattle.words.proofs.one_walk.rest.Statement.{statement}
 use Rattle.words.proofs.one_walk.rest.Tie as tie
 

@@ -1,5 +1,4 @@
 -- `table::kind_of` meets its contract: the table's rule at the byte.
-use mathlib.Core.Path.{_≡_}
 use native.Mathlib.Omega.{arith}
 use borrow.Author.Needs.{needs}
 use Rattle.words.proofs.KindLaws.{kind-least, kind-most}
