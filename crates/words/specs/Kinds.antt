@@ -1,4 +1,5 @@
--- The kinds of byte that the walk of `check` goes by, and the table of them. No contract of a public function cites these.
+-- The kinds of byte that the walk of `check` goes by, and the table of them.
+-- Internal contract.
 use mathlib.Core.List.{List}
 use mathlib.Core.Path.{_≡_}
 use Prim.Native.Char.{code}

@@ -1,4 +1,5 @@
--- What is known on the walk of `check`: the answer as far as the bytes seen tell it. No contract of a public function cites these.
+-- What is known on the walk of `check`: the answer as far as the bytes seen tell it.
+-- Internal contract.
 use mathlib.Core.List.{List, [], _∷_}
 use Prim.Native.Char.{code}
 use Prim.Native.Nat.{ℕ, suc, _+_}
