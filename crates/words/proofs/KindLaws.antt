@@ -1,5 +1,5 @@
 -- The rule of the table, proved once over the whole of it, and what a kind tells.
-use mathlib.Core.Bool.{Bool, true, false}
+use mathlib.Core.Bool.{Bool, true}
 use mathlib.Core.List.{List, [], _∷_}
 use mathlib.Core.Path.{_≡_, ap, sym, _∙_}
 use Prim.Native.Char.{code}
@@ -28,19 +28,17 @@ kinds-from i (k ∷ ks) t (suc x) h =
 pub kinds-right : (table : List ℕ) → length table ≡ 256 → kindsFrom 0 table ≡ true → Kinds table
 kinds-right table long t = record { right = λ x h. kinds-from 0 table t x (omega arith) ∙ ap kindOf (zero-add x) }
 
--- a claim about `kindOf x` is one for each of the four kinds
-kind-cases : (A : ℕ → Type 0) (x : ℕ) → (barred x ≡ true → A (code "?")) → (barred x ≡ false → equals x ≡ true → A (code "="))
-    → (barred x ≡ false → equals x ≡ false → blank x ≡ true → A (code "-")) → (barred x ≡ false → equals x ≡ false → blank x ≡ false → A (code "."))
-    → A (kindOf x)
+-- what holds of all four kinds holds of `kindOf x`
+kind-cases : (A : ℕ → Type 0) (x : ℕ) → A (code "?") → A (code "=") → A (code "-") → A (code ".") → A (kindOf x)
 unfolding kindOf
 kind-cases A x bad ends void plain =
-    by (barred x) (λ e. rw e (bad e))
-    (λ e. by (equals x) (λ f. rw (e, f) (ends e f))
-    (λ f. by (blank x) (λ g. rw (e, f, g) (void e f g))
-    (λ g. rw (e, f, g) (plain e f g))))
+    by (barred x) (λ e. rw e bad)
+    (λ e. by (equals x) (λ f. rw (e, f) ends)
+    (λ f. by (blank x) (λ g. rw (e, f, g) void)
+    (λ g. rw (e, f, g) plain)))
 
 pub kind-least : (x : ℕ) → code "-" ≤ kindOf x
-kind-least x = kind-cases (λ (k : ℕ). code "-" ≤ k) x (λ e. omega arith) (λ e f. omega arith) (λ e f g. omega arith) (λ e f g. omega arith)
+kind-least x = kind-cases (λ (k : ℕ). code "-" ≤ k) x (omega arith) (omega arith) (omega arith) (omega arith)
 
 pub kind-most : (x : ℕ) → kindOf x ≤ code "?"
-kind-most x = kind-cases (λ (k : ℕ). k ≤ code "?") x (λ e. omega arith) (λ e f. omega arith) (λ e f g. omega arith) (λ e f g. omega arith)
+kind-most x = kind-cases (λ (k : ℕ). k ≤ code "?") x (omega arith) (omega arith) (omega arith) (omega arith)

@@ -8,7 +8,7 @@ use native.Mathlib.Omega.{arith}
 use lib.Dec.{eqb}
 use lib.ListN.{length, drop, getD, drop-of-length-le}
 use lib.Seq.{drop-cons}
-use borrow.Author.Tests.{eq-eqb, ne-eqb}
+use borrow.Author.Tests.{lt-ltb}
 use Rattle.lists.proofs.Choice.{by}
 use Rattle.words.specs.Kinds.{IsKind}
 use Rattle.words.specs.Seen.{noEquals, seenAt, fourSeen, allSeen, mattersFrom}
@@ -55,18 +55,12 @@ turn-again {b} {i} {k} {l} {m} {n} {v} {w} t e =
     rw (e, ← four) (known-again (rw three at past-three) (omega arith) (t .fourth) refl)
 
 -- a byte of a lesser kind than matters changes nothing
-seen-quiet : (v : Checked) (p : ℕ) {x k : ℕ} → IsKind x k → k < mattersFrom v → seenAt v p k ≡ v
-unfolding seenAt mattersFrom
-seen-quiet v p {x} {k} is h =
-    by (eqb (v .number) 2) (λ two. rw two)
-    (λ other. by (eqb (v .number) 0)
-    (λ ended. let low : k < code "." = rw ended at h in rw (other, ne-eqb k (code "?") (λ z. omega arith), ended, eq-eqb k (code "-") (omega (arith, is .least))))
-    (λ unended. by (eqb (v .length) 1)
-    (λ one. let low : k < code "?" = rw (unended, one) at h in rw (other, ne-eqb k (code "?") (λ z. omega arith), unended, one) (by (eqb k (code "=")) (λ e. rw e) (λ e. rw e)))
-    (λ none. let low : k < code "=" = rw (unended, none) at h in rw (other, ne-eqb k (code "?") (λ z. omega arith), unended, ne-eqb k (code "=") (λ z. omega arith)))))
+seen-quiet : (v : Checked) (p k : ℕ) → k < mattersFrom v → seenAt v p k ≡ v
+unfolding seenAt
+seen-quiet v p k h = by (eqb (v .number) 2) (λ two. rw two) (λ other. rw (other, lt-ltb k (mattersFrom v) h))
 
 pub known-quiet : {b : List ℕ} {i k : ℕ} {v w : Checked} → Known b i v w → i < length b → IsKind (getD b i 0) k → k < mattersFrom v → Known b (i + 1) v w
-known-quiet {b} {i} {k} {v} {w} t h is low = known-again t h is (sym (seen-quiet v i is low))
+known-quiet {b} {i} {k} {v} {w} t h is low = known-again t h is (sym (seen-quiet v i k low))
 
 -- nor do four whose sum leaves room for neither `=` nor `?`
 pub turn-quiet : {b : List ℕ} {i k l m n size : ℕ} {w : Checked} → Turn b i k l m n (noEquals size) w → k + l + (m + n) ≤ 4 * code "." → Known b (i + 4) (noEquals size) w
@@ -74,4 +68,4 @@ unfolding fourSeen mattersFrom
 turn-quiet {b} {i} {k} {l} {m} {n} {size} t low =
     let known : Checked = noEquals size in
     turn-again t
-    (sym (rw (seen-quiet known i (t .first) (omega arith), seen-quiet known (i + 1) (t .second) (omega arith), seen-quiet known (i + 2) (t .third) (omega arith), seen-quiet known (i + 3) (t .fourth) (omega arith))))
+    (sym (rw (seen-quiet known i k (omega arith), seen-quiet known (i + 1) l (omega arith), seen-quiet known (i + 2) m (omega arith), seen-quiet known (i + 3) n (omega arith))))

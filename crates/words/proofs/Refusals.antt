@@ -1,4 +1,4 @@
--- The refusal table, numbers 1 to 3: its first and its last line, as code and texts meet them, and what `checkOf` tells.
+-- The refusal table, numbers 1 to 3: number 1 as `check` meets it, when nothing is refused, and what `checkOf` tells.
 use mathlib.Core.Bool.{true, false}
 use mathlib.Core.List.{List, [], _∷_, _++_}
 use mathlib.Core.Path.{_≡_, refl, sym, _∙_}
@@ -26,7 +26,7 @@ pub refused-long : (b : List ℕ) → (length b ≡ 0 → ⊥) → 2048 < length
 unfolding checkOf
 refused-long b some h = rw (ne-eqb (length b) 0 some, lt-ltb 2048 (length b) h)
 
-pub not-refused : (b : List ℕ) → (length b ≡ 0 → ⊥) → length b ≤ 2048 → {r s t : ℕ} → r ≡ barredAt b → length b ≤ r → s ≡ equalsAt b → (s ≡ length b → ⊥)
+not-refused : (b : List ℕ) → (length b ≡ 0 → ⊥) → length b ≤ 2048 → {r s t : ℕ} → r ≡ barredAt b → length b ≤ r → s ≡ equalsAt b → (s ≡ length b → ⊥)
     → t ≡ indexFrom solid (s + 1) b → length b ≤ t → _≡_ {A = Checked} (record { number = 0; place = s; length = 0 }) (checkOf b)
 unfolding checkOf
 not-refused b some fits {r} {s} {t} e h f k g l =

@@ -15,7 +15,7 @@ use Rattle.lists.proofs.Choice.{by, clash}
 use Rattle.words.specs.Bytes.{blank, solid, equals, barred}
 use Rattle.words.specs.Check.{checkOf, barredAt, equalsAt, afterAt}
 use Rattle.words.specs.Kinds.{kindOf}
-use Rattle.words.specs.Seen.{noEquals, seenAt, allSeen}
+use Rattle.words.specs.Seen.{noEquals, mattersFrom, seenAt, allSeen}
 use Rattle.words.specs.declared.Checked.{Checked}
 
 -- what can be known, beside `noEquals`: a byte at place p is not allowed
@@ -23,8 +23,8 @@ abbrev notAllowed : ℕ → Checked
 notAllowed p = record { number = 2; place = p; length = 1 }
 
 -- behind the first `=`, at place e, only blanks were seen
-abbrev ended : ℕ → Checked
-ended e = record { number = 0; place = e; length = 0 }
+abbrev onlyBlanks : ℕ → Checked
+onlyBlanks e = record { number = 0; place = e; length = 0 }
 
 -- behind the first `=` something else stands, first at place s
 abbrev after : ℕ → Checked
@@ -41,7 +41,7 @@ equals-solid : (x : ℕ) → equals x ≡ true → blank x ≡ false
 equals-solid x e = rw (eqb-true x (code "=") e)
 
 -- where a byte was not allowed no other changes anything
-seen-settled : (v : Checked) (p k : ℕ) → v .number ≡ 2 → seenAt v p k ≡ v
+pub seen-settled : (v : Checked) (p k : ℕ) → v .number ≡ 2 → seenAt v p k ≡ v
 unfolding seenAt
 seen-settled v p k e = rw (eq-eqb (v .number) 2 e)
 
@@ -53,32 +53,40 @@ all-settled v p (x ∷ xs) e = rw (seen-settled v p (kindOf x) e, all-settled v 
 -- One byte.
 
 module _ (p x : ℕ) where
-  barred-seen : (v : Checked) → (v .number ≡ 2 → ⊥) → barred x ≡ true → seenAt v p (kindOf x) ≡ notAllowed p
-  unfolding seenAt kindOf
-  barred-seen v other e = rw (ne-eqb (v .number) 2 other, e)
+  -- before the `=`
+  none-barred : (n : ℕ) → barred x ≡ true → seenAt (noEquals n) p (kindOf x) ≡ notAllowed p
+  unfolding seenAt mattersFrom kindOf
+  none-barred n e = rw e
 
-  -- behind what stands after the `=`
-  after-seen : (s : ℕ) → barred x ≡ false → seenAt (after s) p (kindOf x) ≡ after s
-  unfolding seenAt kindOf
-  after-seen s e = by (equals x) (λ f. rw (e, f)) (λ f. by (blank x) (λ g. rw (e, f, g)) (λ g. rw (e, f, g)))
+  none-equals : (n : ℕ) → barred x ≡ false → equals x ≡ true → seenAt (noEquals n) p (kindOf x) ≡ onlyBlanks p
+  unfolding seenAt mattersFrom kindOf
+  none-equals n e f = rw (e, f)
+
+  none-other : (n : ℕ) → barred x ≡ false → equals x ≡ false → seenAt (noEquals n) p (kindOf x) ≡ noEquals n
+  unfolding seenAt mattersFrom kindOf
+  none-other n e f = by (blank x) (λ g. rw (e, f, g)) (λ g. rw (e, f, g))
 
   -- behind the `=`
-  blank-seen : (e : ℕ) → barred x ≡ false → blank x ≡ true → seenAt (ended e) p (kindOf x) ≡ ended e
-  unfolding seenAt kindOf
-  blank-seen q e g = by (equals x) (λ f. clash (blank x) g (equals-solid x f)) (λ f. rw (e, f, g))
+  blanks-barred : (q : ℕ) → barred x ≡ true → seenAt (onlyBlanks q) p (kindOf x) ≡ notAllowed p
+  unfolding seenAt mattersFrom kindOf
+  blanks-barred q e = rw e
 
-  solid-seen : (e : ℕ) → barred x ≡ false → blank x ≡ false → seenAt (ended e) p (kindOf x) ≡ after p
-  unfolding seenAt kindOf
-  solid-seen q e g = by (equals x) (λ f. rw (e, f)) (λ f. rw (e, f, g))
+  blanks-blank : (q : ℕ) → barred x ≡ false → blank x ≡ true → seenAt (onlyBlanks q) p (kindOf x) ≡ onlyBlanks q
+  unfolding seenAt mattersFrom kindOf
+  blanks-blank q e g = by (equals x) (λ f. clash (blank x) g (equals-solid x f)) (λ f. rw (e, f, g))
 
-  -- before the `=`
-  equals-seen : (n : ℕ) → barred x ≡ false → equals x ≡ true → seenAt (noEquals n) p (kindOf x) ≡ ended p
-  unfolding seenAt kindOf
-  equals-seen n e f = rw (e, f)
+  blanks-solid : (q : ℕ) → barred x ≡ false → blank x ≡ false → seenAt (onlyBlanks q) p (kindOf x) ≡ after p
+  unfolding seenAt mattersFrom kindOf
+  blanks-solid q e g = by (equals x) (λ f. rw (e, f)) (λ f. rw (e, f, g))
 
-  other-seen : (n : ℕ) → barred x ≡ false → equals x ≡ false → seenAt (noEquals n) p (kindOf x) ≡ noEquals n
-  unfolding seenAt kindOf
-  other-seen n e f = by (blank x) (λ g. rw (e, f, g)) (λ g. rw (e, f, g))
+  -- beyond something else there
+  after-barred : (s : ℕ) → barred x ≡ true → seenAt (after s) p (kindOf x) ≡ notAllowed p
+  unfolding seenAt mattersFrom kindOf
+  after-barred s e = rw e
+
+  after-other : (s : ℕ) → barred x ≡ false → seenAt (after s) p (kindOf x) ≡ after s
+  unfolding seenAt mattersFrom kindOf
+  after-other s e = by (equals x) (λ f. rw (e, f)) (λ f. by (blank x) (λ g. rw (e, f, g)) (λ g. rw (e, f, g)))
 
 -- All bytes.
 
@@ -100,28 +108,28 @@ unfolding allSeen unless indexOf
 all-after s p [] = refl
 all-after s p (x ∷ xs) =
     by (barred x)
-    (λ e. rw (barred-seen p x (after s) (λ z. omega arith) e, all-settled (notAllowed p) (suc p) xs refl, unless-here barred 2 p x xs (after s) e))
-    (λ e. rw (after-seen p x s e, all-after s (suc p) xs, unless-past barred 2 p x xs (after s) e))
+    (λ e. rw (after-barred p x s e, all-settled (notAllowed p) (suc p) xs refl, unless-here barred 2 p x xs (after s) e))
+    (λ e. rw (after-other p x s e, all-after s (suc p) xs, unless-past barred 2 p x xs (after s) e))
 
-all-ended : (q p : ℕ) (xs : List ℕ) → allSeen (ended q) p xs ≡ unless barred 2 p xs (unless solid 3 p xs (ended q))
+all-blanks : (q p : ℕ) (xs : List ℕ) → allSeen (onlyBlanks q) p xs ≡ unless barred 2 p xs (unless solid 3 p xs (onlyBlanks q))
 unfolding allSeen unless indexOf
-all-ended q p [] = refl
-all-ended q p (x ∷ xs) =
-    let next : Checked = unless solid 3 p (x ∷ xs) (ended q) in
+all-blanks q p [] = refl
+all-blanks q p (x ∷ xs) =
+    let next : Checked = unless solid 3 p (x ∷ xs) (onlyBlanks q) in
     by (barred x)
-    (λ e. rw (barred-seen p x (ended q) (λ z. omega arith) e, all-settled (notAllowed p) (suc p) xs refl, unless-here barred 2 p x xs next e))
+    (λ e. rw (blanks-barred p x q e, all-settled (notAllowed p) (suc p) xs refl, unless-here barred 2 p x xs next e))
     (λ e. by (blank x)
-    (λ g. rw (blank-seen p x q e g, all-ended q (suc p) xs, unless-past barred 2 p x xs next e, unless-past solid 3 p x xs (ended q) (ap not g)))
-    (λ g. rw (solid-seen p x q e g, all-after p (suc p) xs, unless-past barred 2 p x xs next e, unless-here solid 3 p x xs (ended q) (ap not g))))
+    (λ g. rw (blanks-blank p x q e g, all-blanks q (suc p) xs, unless-past barred 2 p x xs next e, unless-past solid 3 p x xs (onlyBlanks q) (ap not g)))
+    (λ g. rw (blanks-solid p x q e g, all-after p (suc p) xs, unless-past barred 2 p x xs next e, unless-here solid 3 p x xs (onlyBlanks q) (ap not g))))
 
--- what the first `=` of xs, counted from place p, and what stands behind it tell: as the table has it, and byte by byte
+-- what the first `=` of xs, counted from place p, and what stands behind it tell: as `checkOf` has it, and byte by byte
 endOf : ℕ → ℕ → List ℕ → Checked
 endOf n p xs =
     pick (eqb (indexOf equals xs) (length xs)) (noEquals n)
-    (pick (ltb (indexFrom solid (indexOf equals xs + 1) xs) (length xs)) (after (p + indexFrom solid (indexOf equals xs + 1) xs)) (ended (p + indexOf equals xs)))
+    (pick (ltb (indexFrom solid (indexOf equals xs + 1) xs) (length xs)) (after (p + indexFrom solid (indexOf equals xs + 1) xs)) (onlyBlanks (p + indexOf equals xs)))
 
 module _ (n p x : ℕ) (xs : List ℕ) where
-  end-here : equals x ≡ true → endOf n p (x ∷ xs) ≡ unless solid 3 (suc p) xs (ended p)
+  end-here : equals x ≡ true → endOf n p (x ∷ xs) ≡ unless solid 3 (suc p) xs (onlyBlanks p)
   unfolding endOf unless indexOf
   end-here f =
       let a : ℕ = indexOf solid xs in
@@ -140,10 +148,10 @@ unfolding allSeen unless endOf indexOf
 all-none n p [] = refl
 all-none n p (x ∷ xs) =
     by (barred x)
-    (λ e. rw (barred-seen p x (noEquals n) (λ z. omega arith) e, all-settled (notAllowed p) (suc p) xs refl, unless-here barred 2 p x xs (endOf n p (x ∷ xs)) e))
+    (λ e. rw (none-barred p x n e, all-settled (notAllowed p) (suc p) xs refl, unless-here barred 2 p x xs (endOf n p (x ∷ xs)) e))
     (λ e. by (equals x)
-    (λ f. rw (equals-seen p x n e f, all-ended p (suc p) xs, unless-past barred 2 p x xs (endOf n p (x ∷ xs)) e, end-here n p x xs f))
-    (λ f. rw (other-seen p x n e f, all-none n (suc p) xs, unless-past barred 2 p x xs (endOf n p (x ∷ xs)) e, end-past n p x xs f)))
+    (λ f. rw (none-equals p x n e f, all-blanks p (suc p) xs, unless-past barred 2 p x xs (endOf n p (x ∷ xs)) e, end-here n p x xs f))
+    (λ f. rw (none-other p x n e f, all-none n (suc p) xs, unless-past barred 2 p x xs (endOf n p (x ∷ xs)) e, end-past n p x xs f)))
 
 pub all-checks : (b : List ℕ) → (length b ≡ 0 → ⊥) → length b ≤ 2048 → allSeen (noEquals (length b)) 0 b ≡ checkOf b
 unfolding checkOf unless endOf

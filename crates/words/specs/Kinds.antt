@@ -12,7 +12,7 @@ use Rattle.words.specs.Bytes.{blank, equals, barred}
 unfoldable pub kindOf : ℕ → ℕ
 kindOf x = pick (barred x) (code "?") (pick (equals x) (code "=") (pick (blank x) (code "-") (code ".")))
 
--- k is the kind of x; it lies from the least kind to the greatest
+-- k is the kind of x; the bounds are what a sum of four needs
 pub record IsKind (x k : ℕ) : Type 0 where
   pub is : k ≡ kindOf x
   pub least : code "-" ≤ k

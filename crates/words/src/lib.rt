@@ -39,7 +39,7 @@ pub fn is_digit(x: u8) -> bool
 // The most bytes that a bulletin may have.
 const MOST_BYTES: usize = 2048;
 
-// Can words be read from these bytes? All the tests in one walk.
+// Can words be read from these bytes? All tests of the bytes in one walk.
 pub fn check(bulletin: &[u8]) -> Checked
     ensures { λ r. ⌜ r ≡ checkOf (now (bulletin .entry)) ⌝ }
 {
@@ -59,7 +59,7 @@ pub fn check(bulletin: &[u8]) -> Checked
         };
     }
     let kinds = table::kinds();
-    one_walk::answer(bulletin, &kinds)
+    one_walk::walk(bulletin, &kinds)
 }
 
 // The next word of the text from a place on: empty, at the text's length, where only blanks are left (past the text, at the place).

@@ -1,10 +1,9 @@
 // The table of the kinds of byte.
 ghost use Rattle.words.specs.Kinds.{IsKind, Kinds};
 
-// The kinds of byte as the table draws them: of a word, blank, `=`, and not allowed.
+// A kind is a sign in the drawing below: `-` for a blank, `.` for a byte of a word, `=` for itself, `?` for a byte that is not allowed. They
+// rise in the order in which they matter, and `=` and `?` stand so far up that one of them shows in a sum of four.
 pub(crate) const WORD: u8 = b'.';
-
-pub(crate) const BLANK: u8 = b'-';
 
 pub(crate) const EQUALS: u8 = b'=';
 

@@ -1,4 +1,4 @@
-// The walks over the bytes: each finds the first byte of its kind.
+// The walks that find a word: to the first byte that is no blank, and to the first blank.
 ghost use mathlib.Core.Path.{_≡_};
 ghost use Rattle.lists.specs.Lists.{indexFrom};
 ghost use Rattle.words.specs.Bytes.{blank, solid};

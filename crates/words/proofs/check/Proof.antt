@@ -14,7 +14,7 @@ returns-2 : tie.Need-returns-2
 returns-2 c = search (refused-long, arith)
 
 returns-3 : tie.Need-returns-3
-returns-3 c = c .answer .ensures ∙ all-checks _ (omega arith) (omega arith)
+returns-3 c = c .walk .ensures ∙ all-checks _ (omega arith) (omega arith)
 
 pub check-spec : {M : Type 1} → statement M
 check-spec = tie.close (tie.spec returns returns-2 (λ c κs. search needs) (λ c κs. search needs) returns-3)

@@ -18,7 +18,7 @@ abbrev μ-loop : tie.MeasureT-loop
 μ-loop b kinds from answer₀ least₀ i₀ answer least i = length b - i
 
 loop-holds : tie.Need-loop-holds Inv-loop μ-loop
-loop-holds c = (c .matters .ensures, record { so = refl })
+loop-holds c = (c .matters-from .ensures, record { so = refl })
 
 returns : tie.Need-returns Inv-loop μ-loop
 returns c = sym (all-settled _ _ _ (c .if1 .taken))

@@ -1,52 +1,41 @@
 -- `one_walk::seen` meets its contract: each return is one case of the definition.
-use mathlib.Core.Path.{_≡_}
+use mathlib.Core.Path.{_≡_, sym}
 use Prim.Native.Char.{code}
-use Prim.Native.Nat.{ℕ}
-use borrow.Author.Tests.{eq-eqb, ne-eqb}
-use Rattle.words.specs.Seen.{seenAt}
+use Prim.Native.Nat.{ℕ, _≤_, _<_}
+use borrow.Author.Needs.{needs}
+use borrow.Author.Tests.{eq-eqb, ne-eqb, lt-ltb, le-ltb}
+use Rattle.words.specs.Seen.{mattersFrom, seenAt}
 use Rattle.words.specs.declared.Checked.{Checked}
+use Rattle.words.proofs.SeenLaws.{seen-settled}
 use Rattle.words.proofs.one_walk.seen.Statement.{statement}
 use Rattle.words.proofs.one_walk.seen.Tie as tie
 
-settled : (v : Checked) (p k : ℕ) → v .number ≡ 2 → v ≡ seenAt v p k
-unfolding seenAt
-settled v p k two = rw (eq-eqb (v .number) 2 two)
-
-module _ (v : Checked) (p k : ℕ) (other : v .number ≡ 2 → ⊥) where
-  barred : k ≡ code "?" → _≡_ {A = Checked} (record { number = 2; place = p; length = 1 }) (seenAt v p k)
+module _ (v : Checked) (p k : ℕ) {m : ℕ} (other : v .number ≡ 2 → ⊥) (e : m ≡ mattersFrom v) where
+  quiet : k < m → v ≡ seenAt v p k
   unfolding seenAt
-  barred e = rw (ne-eqb (v .number) 2 other, eq-eqb k (code "?") e)
+  quiet h = rw (ne-eqb (v .number) 2 other, ← e, lt-ltb k m h)
 
-  module _ (fine : k ≡ code "?" → ⊥) where
-    blank : v .number ≡ 0 → k ≡ code "-" → v ≡ seenAt v p k
+  module _ (h : m ≤ k) where
+    on-barred : k ≡ code "?" → _≡_ {A = Checked} (record { number = 2; place = p; length = 1 }) (seenAt v p k)
     unfolding seenAt
-    blank ended e = rw (ne-eqb (v .number) 2 other, ne-eqb k (code "?") fine, eq-eqb (v .number) 0 ended, eq-eqb k (code "-") e)
+    on-barred is = rw (ne-eqb (v .number) 2 other, ← e, le-ltb k m h, eq-eqb k (code "?") is)
 
-    solid : v .number ≡ 0 → (k ≡ code "-" → ⊥) → _≡_ {A = Checked} (record { number = 3; place = p; length = 1 }) (seenAt v p k)
-    unfolding seenAt
-    solid ended e = rw (ne-eqb (v .number) 2 other, ne-eqb k (code "?") fine, eq-eqb (v .number) 0 ended, ne-eqb k (code "-") e)
-
-    module _ (unended : v .number ≡ 0 → ⊥) where
-      unequal : (k ≡ code "=" → ⊥) → v ≡ seenAt v p k
+    module _ (fine : k ≡ code "?" → ⊥) where
+      on-solid : v .number ≡ 0 → _≡_ {A = Checked} (record { number = 3; place = p; length = 1 }) (seenAt v p k)
       unfolding seenAt
-      unequal e = rw (ne-eqb (v .number) 2 other, ne-eqb k (code "?") fine, ne-eqb (v .number) 0 unended, ne-eqb k (code "=") e)
+      on-solid ended = rw (ne-eqb (v .number) 2 other, ← e, le-ltb k m h, ne-eqb k (code "?") fine, eq-eqb (v .number) 0 ended)
 
-      again : k ≡ code "=" → v .length ≡ 1 → v ≡ seenAt v p k
+      on-equals : (v .number ≡ 0 → ⊥) → _≡_ {A = Checked} (record { number = 0; place = p; length = 0 }) (seenAt v p k)
       unfolding seenAt
-      again e one = rw (ne-eqb (v .number) 2 other, ne-eqb k (code "?") fine, ne-eqb (v .number) 0 unended, eq-eqb k (code "=") e, eq-eqb (v .length) 1 one)
-
-      first : k ≡ code "=" → (v .length ≡ 1 → ⊥) → _≡_ {A = Checked} (record { number = 0; place = p; length = 0 }) (seenAt v p k)
-      unfolding seenAt
-      first e none = rw (ne-eqb (v .number) 2 other, ne-eqb k (code "?") fine, ne-eqb (v .number) 0 unended, eq-eqb k (code "=") e, ne-eqb (v .length) 1 none)
+      on-equals unended = rw (ne-eqb (v .number) 2 other, ← e, le-ltb k m h, ne-eqb k (code "?") fine, ne-eqb (v .number) 0 unended)
 
 pub seen-spec : {M : Type 1} → statement M
 seen-spec =
     tie.close
     (tie.spec
-    (λ c. search settled)
-    (λ c. search barred)
-    (λ c. search blank)
-    (λ c. search solid)
-    (λ c. search unequal)
-    (λ c. search again)
-    (λ c. search first))
+    (λ c. sym (seen-settled _ _ _ (c .if1 .taken)))
+    (λ c κs. search needs)
+    (λ c. search quiet)
+    (λ c. search on-barred)
+    (λ c. search on-solid)
+    (λ c. search on-equals))

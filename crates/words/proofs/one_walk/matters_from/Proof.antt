@@ -1,8 +1,8 @@
--- `one_walk::matters` meets its contract.
+-- `one_walk::matters_from` meets its contract.
 use borrow.Author.Tests.{eq-eqb, ne-eqb}
 use Rattle.words.specs.Seen.{mattersFrom}
-use Rattle.words.proofs.one_walk.matters.Statement.{statement}
-use Rattle.words.proofs.one_walk.matters.Tie as tie
+use Rattle.words.proofs.one_walk.matters_from.Statement.{statement}
+use Rattle.words.proofs.one_walk.matters_from.Tie as tie
 
 returns : tie.Need-returns
 unfolding mattersFrom
@@ -16,5 +16,5 @@ returns-3 : tie.Need-returns-3
 unfolding mattersFrom
 returns-3 c = rw (ne-eqb _ _ (c .before .before .if1 .left), ne-eqb _ _ (c .if2 .left))
 
-pub matters-spec : {M : Type 1} → statement M
-matters-spec = tie.close (tie.spec returns returns-2 returns-3)
+pub matters-from-spec : {M : Type 1} → statement M
+matters-from-spec = tie.close (tie.spec returns returns-2 returns-3)
