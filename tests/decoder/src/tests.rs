@@ -185,7 +185,7 @@ fn rows_are_read_back() {
     assert_eq!(judge(&format!("a 9 100 1 {refused}\n")), "a: 9 100 4 WRONG\n0 ok, 1 wrong\n");
 }
 
-/// Nine bytes are two turns and a byte: something stands at 0, 3, 4, 7 and 8.
+/// Nine bytes are two turns and a byte: something stands at 0 to 4, 7 and 8.
 #[test]
 fn ends_of_turns() {
     let all = turns::bulletins(9);
@@ -200,6 +200,9 @@ fn ends_of_turns() {
         ("AAA=A    ", "3 4 1"),
         ("AAA=   = ", "3 7 1"),
         ("AAA=A   >", "2 8 1"),
+        ("A=A=     ", "3 2 1"),
+        ("Aaa      ", "2 1 1"),
+        ("Aa=      ", "2 1 1"),
         ("AAAAAAA=A", "3 8 1"),
     ] {
         assert!(replies.contains(&(text, reply.to_string())), "{text}: {reply}");
