@@ -5,15 +5,12 @@ use Prim.Native.Char.{code}
 use Prim.Native.Nat.{ℕ, _+_, _-_, _*_, _≤_, _<_}
 use native.Mathlib.Numerals.{add-one}
 use native.Mathlib.Omega.{arith}
-use lib.Dec.{eqb}
 use lib.ListN.{length, drop, getD, drop-of-length-le}
 use lib.Seq.{drop-cons}
-use borrow.Author.Tests.{lt-ltb}
-use Rattle.lists.proofs.Choice.{by}
 use Rattle.words.specs.Kinds.{IsKind}
 use Rattle.words.specs.Seen.{noEquals, seenAt, fourSeen, allSeen, mattersFrom}
 use Rattle.words.specs.declared.Checked.{Checked}
-use Rattle.words.proofs.SeenLaws.{all-settled}
+use Rattle.words.proofs.SeenLaws.{seen-quiet, all-settled}
 
 -- v is what the bytes before place i tell, and with those from there on the answer is w
 pub record Known (b : List ℕ) (i : ℕ) (v w : Checked) : Type 0 where
@@ -33,6 +30,9 @@ known-comes {b} {i} {v} {w} {r} t e = e ∙ sym (t .so)
 pub known-again : {b : List ℕ} {i k : ℕ} {v w r : Checked} → Known b i v w → i < length b → IsKind (getD b i 0) k → r ≡ seenAt v i k → Known b (i + 1) r w
 unfolding allSeen
 known-again {b} {i} {k} {v} {w} {r} t h is e = record { so = t .so ∙ rw (e, is .is, add-one, drop-cons b i 0 h) }
+
+pub known-quiet : {b : List ℕ} {i k : ℕ} {v w : Checked} → Known b i v w → i < length b → IsKind (getD b i 0) k → k < mattersFrom v → Known b (i + 1) v w
+known-quiet {b} {i} {k} {v} {w} t h is low = known-again t h is (sym (seen-quiet v i k low))
 
 -- a turn: what is known before it, and the kinds of its four bytes
 pub record Turn (b : List ℕ) (i k l m n : ℕ) (v w : Checked) : Type 0 where
@@ -54,15 +54,7 @@ turn-again {b} {i} {k} {l} {m} {n} {v} {w} t e =
     let past-three = known-again (rw two at past-two) (omega arith) (t .third) refl in
     rw (e, ← four) (known-again (rw three at past-three) (omega arith) (t .fourth) refl)
 
--- a byte of a lesser kind than matters changes nothing
-seen-quiet : (v : Checked) (p k : ℕ) → k < mattersFrom v → seenAt v p k ≡ v
-unfolding seenAt
-seen-quiet v p k h = by (eqb (v .number) 2) (λ two. rw two) (λ other. rw (other, lt-ltb k (mattersFrom v) h))
-
-pub known-quiet : {b : List ℕ} {i k : ℕ} {v w : Checked} → Known b i v w → i < length b → IsKind (getD b i 0) k → k < mattersFrom v → Known b (i + 1) v w
-known-quiet {b} {i} {k} {v} {w} t h is low = known-again t h is (sym (seen-quiet v i k low))
-
--- nor do four whose sum leaves room for neither `=` nor `?`
+-- a turn changes nothing whose sum leaves no room for `=` or `?`
 pub turn-quiet : {b : List ℕ} {i k l m n size : ℕ} {w : Checked} → Turn b i k l m n (noEquals size) w → k + l + (m + n) ≤ 4 * code "." → Known b (i + 4) (noEquals size) w
 unfolding fourSeen mattersFrom
 turn-quiet {b} {i} {k} {l} {m} {n} {size} t low =

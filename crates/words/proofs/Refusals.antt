@@ -4,10 +4,9 @@ use mathlib.Core.List.{List, [], _∷_, _++_}
 use mathlib.Core.Path.{_≡_, refl, sym, _∙_}
 use Prim.Native.Nat.{ℕ, suc, _+_, _≤_, _<_, zero-le}
 use native.Mathlib.Nat.{add-zero}
-use native.Mathlib.Numerals.{add-one}
 use native.Mathlib.Omega.{arith}
 use lib.Dec.{ltb, eqb, lit≤}
-use lib.ListN.{length, take, drop, getD, length-append, length-drop}
+use lib.ListN.{length, take, drop, getD, length-append}
 use lib.Seq.{split-at, drop-append-add}
 use borrow.Author.Tests.{lt-ltb, le-ltb, eq-eqb, ne-eqb, ltb-true, ltb-false, eqb-true, eqb-false, not-true}
 use Rattle.lists.specs.Choice.{either}
@@ -100,13 +99,11 @@ pub record Readable (b : List ℕ) (e : ℕ) : Type 0 where
   pub within : e < length b
   pub fits : length b ≤ 2048
   pub split : b ≡ take e b ++ (61 ∷ drop (suc e) b)
-  pub allowed-all : allOf allowed b ≡ true
   pub allowed-text : allOf allowed (take e b) ≡ true
   pub no-equals : allOf unequal (take e b) ≡ true
-  pub blank-after : allOf blank (drop (suc e) b) ≡ true
 
-readable : (b : List ℕ) → length b ≤ 2048 → length b ≤ barredAt b → (equalsAt b ≡ length b → ⊥) → length b ≤ afterAt b → Readable b (equalsAt b)
-readable b fits clean found over =
+readable : (b : List ℕ) → length b ≤ 2048 → length b ≤ barredAt b → (equalsAt b ≡ length b → ⊥) → Readable b (equalsAt b)
+readable b fits clean found =
     let e : ℕ = equalsAt b in
     let within : e < length b = omega (arith, index-within equals b) in
     let byte : getD b e 0 ≡ 61 = eqb-true (getD b e 0) 61 (index-found equals b 0 within) in
@@ -116,10 +113,8 @@ readable b fits clean found over =
       within = within;
       fits = fits;
       split = rw byte at (split-at b e 0 within);
-      allowed-all = all;
       allowed-text = all-take allowed e b all;
       no-equals = index-clear equals b;
-      blank-after = rw (all-not-not blank (drop (suc e) b)) at (index-all solid (drop (suc e) b) (rw (← (add-one e)) (omega (arith, length-drop (e + 1) b))));
     }
 
 pub check-readable : (b : List ℕ) → checkOf b .number ≡ 0 → Readable b (checkOf b .place)
@@ -128,7 +123,7 @@ check-readable b = check-cases (λ (r : Checked). r .number ≡ 0 → Readable b
     (λ h e. absurd (omega arith))
     (λ h e. absurd (omega arith))
     (λ found h e. absurd (omega arith))
-    (λ some fits clean found over e. readable b fits clean found over)
+    (λ some fits clean found over e. readable b fits clean found)
 
 -- And back: a text of allowed bytes without `=`, that `=`, and blanks, all of it short enough.
 

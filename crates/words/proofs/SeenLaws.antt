@@ -3,7 +3,7 @@ use mathlib.Core.Bool.{Bool, true, false, not}
 use mathlib.Core.List.{List, [], _∷_}
 use mathlib.Core.Path.{_≡_, refl, sym, ap, _∙_}
 use Prim.Native.Char.{code}
-use Prim.Native.Nat.{ℕ, suc, _+_, _≤_}
+use Prim.Native.Nat.{ℕ, suc, _+_, _≤_, _<_}
 use native.Mathlib.Nat.{add-zero, zero-add, add-suc, suc-add}
 use native.Mathlib.Omega.{arith}
 use lib.Dec.{ltb, eqb}
@@ -39,6 +39,11 @@ eqb-suc m n = by (eqb m n) (λ e. eq-eqb (suc m) (suc n) (ap suc (eqb-true m n e
 -- `=` is no blank
 equals-solid : (x : ℕ) → equals x ≡ true → blank x ≡ false
 equals-solid x e = rw (eqb-true x (code "=") e)
+
+-- a byte of a lesser kind than matters changes nothing
+pub seen-quiet : (v : Checked) (p k : ℕ) → k < mattersFrom v → seenAt v p k ≡ v
+unfolding seenAt
+seen-quiet v p k h = by (eqb (v .number) 2) (λ two. rw two) (λ other. rw (other, lt-ltb k (mattersFrom v) h))
 
 -- where a byte was not allowed no other changes anything
 pub seen-settled : (v : Checked) (p k : ℕ) → v .number ≡ 2 → seenAt v p k ≡ v

@@ -88,9 +88,6 @@ blank-later t p h = index-moves blank (drop (startAt t p) t) (rw length-drop (om
 pub next-moves : (t : List ℕ) (p : ℕ) → startAt t p < length t → startAt t p < stopAt t p
 next-moves t p h = omega (arith, blank-later t p h)
 
-pub next-within : (t : List ℕ) (p : ℕ) → startAt t p < length t → stopAt t p ≤ length t
-next-within t p h = from-within blank t (startAt t p) (omega arith)
-
 -- the next word, and then the words from its end on
 pub next-word : (t : List ℕ) (p : ℕ) → startAt t p < length t
     → wordsAt t p ≡ record { place = startAt t p; bytes = part (startAt t p) (stopAt t p) t } ∷ wordsAt t (stopAt t p)

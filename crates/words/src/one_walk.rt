@@ -1,7 +1,7 @@
-// The one walk of `check`, which loads no byte twice: four bytes a turn up to the first turn that has a `=` or a byte that is not allowed, then
-// one by one, as the last bytes that fill no turn. What is known on the way is the answer as far as the bytes before tell it: there is no `=`
-// (number 3, length 0); behind the first `=` stand only blanks (0); something else stands there (3, length 1); a byte is not allowed (2), and
-// that settles it.
+// The one walk of `check`, which loads no byte twice: four bytes a turn up to the first turn that has a `=` or a byte that is not allowed, and
+// from there on one by one, as also the last bytes, which fill no turn. What is known on the way is the answer as far as the bytes before tell
+// it: there is no `=` (number 3, length 0); behind the first `=` stand only blanks (0); something else stands there (3, length 1); a byte is not
+// allowed (2), and that settles it.
 ghost use mathlib.Core.Path.{_≡_};
 ghost use Prim.Native.Nat.{_+_, _≤_};
 ghost use lib.ListN.{length, drop};

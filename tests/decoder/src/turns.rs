@@ -44,8 +44,9 @@ fn good(length: usize, place: usize) -> Option<Vec<u8>> {
     Some(text)
 }
 
-/// All those of this length: no such byte, one at each place, a `=` and something behind it at every two places; and, where these are next to
-/// one another, a byte before the `=` that is not allowed, and a third one behind what follows the `=`, right there and at the end.
+/// All those of this length: no such byte, one at each place, the good one with its `=` there, a `=` and something behind it at every two
+/// places; and, where these are next to one another, a byte before the `=` that is not allowed, and a third one behind what follows the `=`,
+/// right there and at the end.
 pub fn bulletins(length: usize) -> Vec<Vec<u8>> {
     let places = places(length);
     let mut all = vec![text(length, &[])];

@@ -50,32 +50,11 @@ returns-2 c = known-comes (c .before .before .loop .inv .1) (c .rest2 .ensures)
 pub walk-spec : {M : Type 1} → statement M
 walk-spec =
     tie.close
-    (tie.spec
-    Inv-loop
-    μ-loop
-    loop-holds
-    (λ c. omega arith)
-    (λ c. omega arith)
-    (λ c κs. search needs)
-    (λ c. omega arith)
-    (λ c. omega arith)
-    (λ c κs. search needs)
-    (λ c. omega arith)
-    (λ c. omega arith)
-    (λ c κs. search needs)
-    (λ c. omega arith)
-    (λ c. omega arith)
-    (λ c κs. search needs)
-    (λ c. omega arith)
-    (λ c. omega arith)
-    (λ c. omega arith)
-    (λ c. omega arith)
-    (λ c κs. omega arith)
-    (λ c. omega arith)
-    (λ c κs. search needs)
-    returns
-    (λ c. omega arith)
-    (λ c. omega arith)
-    loop-again
-    (λ c κs. search needs)
-    returns-2)
+    (tie.spec Inv-loop μ-loop loop-holds (λ c. omega arith)
+    (λ c. omega arith) (λ c κs. search needs)
+    (λ c. omega arith) (λ c. omega arith) (λ c κs. search needs)
+    (λ c. omega arith) (λ c. omega arith) (λ c κs. search needs)
+    (λ c. omega arith) (λ c. omega arith) (λ c κs. search needs)
+    (λ c. omega arith) (λ c. omega arith) (λ c. omega arith) (λ c. omega arith)
+    (λ c κs. omega arith) (λ c. omega arith) (λ c κs. search needs) returns
+    (λ c. omega arith) (λ c. omega arith) loop-again (λ c κs. search needs) returns-2)
