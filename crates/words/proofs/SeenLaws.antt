@@ -1,14 +1,14 @@
 -- What is known when all bytes were seen is the answer of the refusal table.
 use mathlib.Core.Bool.{Bool, true, false, not}
 use mathlib.Core.List.{List, [], _∷_}
-use mathlib.Core.Path.{_≡_, refl, sym, ap, _∙_}
+use mathlib.Core.Path.{_≡_, refl, ap, _∙_}
 use Prim.Native.Char.{code}
 use Prim.Native.Nat.{ℕ, suc, _+_, _≤_, _<_}
 use native.Mathlib.Nat.{add-zero, zero-add, add-suc, suc-add}
 use native.Mathlib.Omega.{arith}
-use lib.Dec.{ltb, eqb}
+use lib.Dec.{ltb, eqb, leb·suc-suc, eqb·suc-suc}
 use lib.ListN.{length, drop}
-use borrow.Author.Tests.{eq-eqb, ne-eqb, lt-ltb, le-ltb, eqb-true, eqb-false, ltb-true, ltb-false}
+use borrow.Author.Tests.{eq-eqb, ne-eqb, lt-ltb, le-ltb, eqb-true}
 use Rattle.lists.specs.Choice.{pick}
 use Rattle.lists.specs.Lists.{indexOf, indexFrom}
 use Rattle.lists.proofs.Choice.{by, clash}
@@ -29,12 +29,6 @@ onlyBlanks e = record { number = 0; place = e; length = 0 }
 -- behind the first `=` something else stands, first at place s
 abbrev after : ℕ → Checked
 after s = record { number = 3; place = s; length = 1 }
-
-ltb-suc : (m n : ℕ) → ltb (suc m) (suc n) ≡ ltb m n
-ltb-suc m n = by (ltb m n) (λ e. lt-ltb (suc m) (suc n) (omega (arith, ltb-true m n e)) ∙ sym e) (λ e. le-ltb (suc m) (suc n) (omega (arith, ltb-false m n e)) ∙ sym e)
-
-eqb-suc : (m n : ℕ) → eqb (suc m) (suc n) ≡ eqb m n
-eqb-suc m n = by (eqb m n) (λ e. eq-eqb (suc m) (suc n) (ap suc (eqb-true m n e)) ∙ sym e) (λ e. ne-eqb (suc m) (suc n) (λ z. eqb-false m n e (omega arith)) ∙ sym e)
 
 -- `=` is no blank
 equals-solid : (x : ℕ) → equals x ≡ true → blank x ≡ false
@@ -106,7 +100,7 @@ module _ (f : ℕ → Bool) (number p x : ℕ) (xs : List ℕ) (v : Checked) whe
 
   unless-past : f x ≡ false → unless f number p (x ∷ xs) v ≡ unless f number (suc p) xs v
   unfolding unless indexOf
-  unless-past e = rw (e, ltb-suc (indexOf f xs) (length xs), add-suc p (indexOf f xs), suc-add p (indexOf f xs))
+  unless-past e = rw (e, leb·suc-suc (suc (indexOf f xs)) (length xs), add-suc p (indexOf f xs), suc-add p (indexOf f xs))
 
 all-after : (s p : ℕ) (xs : List ℕ) → allSeen (after s) p xs ≡ unless barred 2 p xs (after s)
 unfolding allSeen unless indexOf
@@ -139,14 +133,14 @@ module _ (n p x : ℕ) (xs : List ℕ) where
   end-here f =
       let a : ℕ = indexOf solid xs in
       let one : 1 + a ≡ suc a = omega arith in
-      rw (f, ne-eqb 0 (suc (length xs)) (λ z. omega arith), one, ltb-suc a (length xs), add-suc p a, suc-add p a, add-zero p)
+      rw (f, ne-eqb 0 (suc (length xs)) (λ z. omega arith), one, leb·suc-suc (suc a) (length xs), add-suc p a, suc-add p a, add-zero p)
 
   end-past : equals x ≡ false → endOf n p (x ∷ xs) ≡ endOf n (suc p) xs
   unfolding endOf indexOf
   end-past f =
       let e : ℕ = indexOf equals xs in
       let a : ℕ = indexFrom solid (e + 1) xs in
-      rw (f, eqb-suc e (length xs), suc-add e 1, suc-add (e + 1) (indexOf solid (drop (e + 1) xs)), ltb-suc a (length xs), add-suc p a, suc-add p a, add-suc p e, suc-add p e)
+      rw (f, eqb·suc-suc e (length xs), suc-add e 1, suc-add (e + 1) (indexOf solid (drop (e + 1) xs)), leb·suc-suc (suc a) (length xs), add-suc p a, suc-add p a, add-suc p e, suc-add p e)
 
 all-none : (n p : ℕ) (xs : List ℕ) → allSeen (noEquals n) p xs ≡ unless barred 2 p xs (endOf n p xs)
 unfolding allSeen unless endOf indexOf
