@@ -2,7 +2,7 @@
 use mathlib.Core.List.{List, []}
 use mathlib.Core.Path.{_≡_, refl}
 use Prim.Native.Char.{code}
-use Prim.Native.Nat.{ℕ}
+use Prim.Native.Nat.{ℕ, _+_, _-_, _*_}
 use lib.ListN.{replicate}
 use Rattle.lists.specs.Base.{worthAfter, places}
 use Rattle.lists.specs.Lists.{indexOf, allOf, same}
@@ -21,11 +21,12 @@ use Rattle.names.specs.Names.{closingWords, nameWord}
 use Rattle.levels.specs.Levels.{levelOf, goodLevelWord}
 use Rattle.motions.specs.Motions.{compassWords, intensityWords}
 use Rattle.motions.specs.Speeds.{unitWords, speedOf, goodSpeed}
+use Rattle.message.specs.Limits.{mostPoints}
 use Rattle.message.specs.Records.{namesItself}
 use Rattle.message.specs.Sample.{sample, sampleText}
 use Rattle.message.specs.Words.{testTexts}
 use Rattle.cases.specs.Samples.{reporting, eastOf, E180, bulletin, laterSaying, located, cancelling}
-use Rattle.cases.specs.Cases.{saying, ashSaying, meridianOutline, sevenOutline, testing, testingFifty, eruptionText, eruptionRecord, correctedText, correctedRecord}
+use Rattle.cases.specs.Cases.{saying, ashSaying, meridianOutline, climb, climbText, longestOutline, lastPoint, testing, testingFifty, eruptionText, eruptionRecord, correctedText, correctedRecord}
 use Rattle.grammar.specs.Placing.{pointed, locating, placeStep}
 use Rattle.grammar.specs.Bulletins.{acceptance, refusal}
 use Rattle.grammar.specs.Reads.{readOf}
@@ -36,7 +37,7 @@ use Rattle.grammar.specs.declared.Reply.{Reply}
 -- the reader with every definition open that it comes to: a theorem that unfolds this one computes
 opened : List ℕ → Reply
 unfolding
-    readOf sampleText sample checkOf runAt run scan spanOf lengthAt step indexOf allOf same worthAfter allowed figuresOf lettersOf goodLetters coordinateOf goodCoordinate groupOf goodGroup periodOf goodPeriod timeOf goodTime typeWords designatorOf goodDesignator correctionOf goodCorrection officeOf sequenceOf goodSequence closingWords nameWord levelOf goodLevelWord compassWords intensityWords unitWords speedOf goodSpeed namesItself testTexts signedOf samePoint stormWords cancels stepForm stepLevel stepEnding pointed locating placeStep places
+    readOf climb climbText sampleText sample checkOf runAt run scan spanOf lengthAt step indexOf allOf same worthAfter allowed figuresOf lettersOf goodLetters coordinateOf goodCoordinate groupOf goodGroup periodOf goodPeriod timeOf goodTime typeWords designatorOf goodDesignator correctionOf goodCorrection officeOf sequenceOf goodSequence closingWords nameWord levelOf goodLevelWord compassWords intensityWords unitWords speedOf goodSpeed namesItself testTexts signedOf samePoint stormWords cancels stepForm stepLevel stepEnding pointed locating placeStep places
 opened b = readOf b
 
 -- The paper's cases.
@@ -134,10 +135,10 @@ pub outline-third : readOf (reporting "WI N10 E010 - N11 E010 - N10 E010 - N10 E
 unfolding opened
 outline-third = refl
 
--- "4 to 7 points": the seventh at 164 would have to be equal to point 1
-pub outline-seventh : readOf (reporting "WI N10 E010 - N11 E010 - N12 E010 - N13 E010 - N14 E010 - N15 E010 - N16 E010 SFC/FL100 STNR NC=") ≡ refusal 9 164 3
+-- "It ends at the first later point equal to point 1": the last that there is room for would have to be equal to it
+pub last-latitude : readOf (lastPoint "N09 E010 SFC/FL100 STNR NC=") ≡ refusal 9 (98 + 11 * (mostPoints - 1)) 3
 unfolding opened
-outline-seventh = refl
+last-latitude = refl
 
 -- the outline has ended with the fourth point, at 131 and 135; where the level is to come, at 140, there is a `-`
 pub outline-ended : readOf (reporting "WI N10 E010 - N11 E010 - N11 E011 - N10 E010 - N12 E010 SFC/FL100 STNR NC=") ≡ refusal 10 140 1
@@ -264,14 +265,14 @@ pub outline-second : readOf (reporting "WI N10 E180 - N1000 W180 - N11 E179 - N1
 unfolding opened
 outline-second = refl
 
-pub seven-read : readOf (reporting "WI N10 E010 - N11 E010 - N12 E010 - N13 E010 - N14 E010 - N15 E010 - N10 E010 SFC/FL100 MOV E 20KT WKN=") ≡ acceptance (located sevenOutline)
+pub longest-read : readOf (lastPoint "N10 E010 SFC/FL100 MOV E 20KT WKN=") ≡ acceptance (located longestOutline)
 unfolding opened
-seven-read = refl
+longest-read = refl
 
--- the seventh has the latitude of point 1, at 164, and not its longitude, at 168
-pub seventh-longitude : readOf (reporting "WI N10 E010 - N11 E010 - N12 E010 - N13 E010 - N14 E010 - N15 E010 - N10 E011 SFC/FL100 STNR NC=") ≡ refusal 9 168 4
+-- the last has the latitude of point 1 and not its longitude, four bytes further
+pub last-longitude : readOf (lastPoint "N10 E011 SFC/FL100 STNR NC=") ≡ refusal 9 (102 + 11 * (mostPoints - 1)) 4
 unfolding opened
-seventh-longitude = refl
+last-longitude = refl
 
 -- "(lower below upper)", "(10000 up)", "No number is zero": the level at 105; after TOP only `FLnnn`, at 109
 pub band-turned : readOf (reporting "E OF E114 FL260/180 STNR NC=") ≡ refusal 10 105 9

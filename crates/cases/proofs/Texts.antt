@@ -28,7 +28,7 @@ use Rattle.message.specs.Words.{headingWords, lineWords, areaWords, testTexts, 
 use Rattle.message.specs.declared.Record.{Record}
 use Rattle.grammar.specs.Writes.{writeOf}
 use Rattle.cases.specs.Samples.{reporting, eastOf, E180, laterSaying, located, cancelling}
-use Rattle.cases.specs.Cases.{saying, meridianOutline, sevenOutline, testing, testingFifty, eruptionText, eruptionRecord, correctedText, correctedRecord}
+use Rattle.cases.specs.Cases.{saying, meridianOutline, climb, climbText, longestOutline, lastPoint, testing, testingFifty, eruptionText, eruptionRecord, correctedText, correctedRecord}
 
 -- the record is good, and that is its text
 pub record Shown (r : Record) (text : List ℕ) : Type 0 where
@@ -38,7 +38,7 @@ pub record Shown (r : Record) (text : List ℕ) : Type 0 where
 -- a record's goodness and its text with every definition open that they come to
 opened : Record → Bool
 unfolding
-    writeOf sampleText good sample goodHeading goodLine goodArea namesItself goodForm goodReport emptyReport goodDesignator goodCorrection goodLetters goodGroup goodPeriod goodSequence goodName goodPhenomenon goodVolcano goodPoint goodObservation emptyObservation goodExtent goodOutline goodLevel emptyLevel goodEnding emptyEnding emptyVolcano emptyName emptyPoint emptyCoordinate emptySide goodBound goodSide goodCoordinate noPoints emptyExtent goodLevelWord goodSpeed unitWords intensityWords closingWords typeWords worthAfter places allOf nameText pieces nameWord indexOf same goodTime compassWords samePoint signedOf
+    writeOf climb climbText sampleText good sample goodHeading goodLine goodArea namesItself goodForm goodReport emptyReport goodDesignator goodCorrection goodLetters goodGroup goodPeriod goodSequence goodName goodPhenomenon goodVolcano goodPoint goodObservation emptyObservation goodExtent goodOutline goodLevel emptyLevel goodEnding emptyEnding emptyVolcano emptyName emptyPoint emptyCoordinate emptySide goodBound goodSide goodCoordinate noPoints emptyExtent goodLevelWord goodSpeed unitWords intensityWords closingWords typeWords worthAfter places allOf nameText pieces nameWord indexOf same goodTime compassWords samePoint signedOf
     textOf headingWords lineWords bodyWords areaWords testTexts formWords reportWords phenomenonWords observationWords extentWords levelWords endingWords spellDesignator spellGroup spellPeriod spellSequence spellTime spellLevelWord spellSpeed spellCoordinate boundWords dashed joined phenomena line
 opened r = good r
 
@@ -78,9 +78,9 @@ pub meridian-text : Shown (located meridianOutline) (reporting "WI N10 E180 - N1
 unfolding opened
 meridian-text = record { isGood = refl; written = refl }
 
-pub seven-text : Shown (located sevenOutline) (reporting "WI N10 E010 - N11 E010 - N12 E010 - N13 E010 - N14 E010 - N15 E010 - N10 E010 SFC/FL100 MOV E 20KT WKN=")
+pub longest-text : Shown (located longestOutline) (lastPoint "N10 E010 SFC/FL100 MOV E 20KT WKN=")
 unfolding opened
-seven-text = record { isGood = refl; written = refl }
+longest-text = record { isGood = refl; written = refl }
 
 -- 01, "Writer: 13 bad record; 24 text over 2,048 bytes; 14 buffer shorter than what would be written. Count 0, buffer untouched. On success
 -- … the bytes past the count stay." 24 cannot happen (`never-24`, crate grammar).

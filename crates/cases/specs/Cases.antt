@@ -3,16 +3,18 @@
 use mathlib.Core.Bool.{true, false}
 use mathlib.Core.List.{List, [], _∷_, _++_}
 use Prim.Native.Char.{code}
-use Prim.Native.Nat.{ℕ}
+use Prim.Native.Nat.{ℕ, zero, suc, _-_}
 use Prim.Native.String.{String}
 use lib.ListN.{replicate}
 use Rattle.lists.specs.Base.{worth}
 use Rattle.lists.specs.Text.{bytes}
+use Rattle.figures.specs.Figures.{inFigures}
 use Rattle.coordinates.specs.Points.{point, noPoint}
 use Rattle.coordinates.specs.declared.Coordinate.{Coordinate}
 use Rattle.coordinates.specs.declared.Point.{Point}
 use Rattle.headings.specs.declared.Sequence.{Sequence}
 use Rattle.levels.specs.declared.Level.the-variants.{Band, TopAboveFlight}
+use Rattle.message.specs.Limits.{mostPoints}
 use Rattle.message.specs.Locations.{noExtent}
 use Rattle.message.specs.Reports.{noVolcano, noReport}
 use Rattle.message.specs.Sample.{dayAndTime}
@@ -25,7 +27,7 @@ use Rattle.message.specs.declared.Heading.{Heading}
 use Rattle.message.specs.declared.Location.the-variants.{Bounded, Outline, Entire}
 use Rattle.message.specs.declared.Name.{Name}
 use Rattle.message.specs.declared.Record.{Record}
-use Rattle.cases.specs.Samples.{bulletin}
+use Rattle.cases.specs.Samples.{bulletin, reporting}
 
 -- the sample's heading and first line, and this body; so too in a WV
 abbrev pub saying : String → List ℕ
@@ -74,7 +76,7 @@ sampleArea closing = record { indicator = worth 256 (bytes "QBBB"); name = north
 abbrev pub northEast : ℕ → ℕ → Point
 northEast north east = point (coordinate (code "N") 2 north 0) (coordinate (code "E") 3 east 0)
 
--- four points, the last equal to the first on the other side of the meridian of 180 degrees; and seven points
+-- four points, the last equal to the first on the other side of the meridian of 180 degrees
 abbrev pub meridianOutline : Extent
 meridianOutline =
     record {
@@ -84,26 +86,25 @@ meridianOutline =
           ∷ northEast 11 180
           ∷ northEast 11 179
           ∷ point (coordinate (code "N") 2 10 0) (coordinate (code "W") 5 180 0)
-          ∷ noPoint
-          ∷ noPoint
-          ∷ noPoint
-          ∷ [];
+          ∷ replicate (mostPoints - 4) noPoint;
     }
 
-abbrev pub sevenOutline : Extent
-sevenOutline =
-    record {
-      location = Outline 7;
-      points =
-          northEast 10 10
-          ∷ northEast 11 10
-          ∷ northEast 12 10
-          ∷ northEast 13 10
-          ∷ northEast 14 10
-          ∷ northEast 15 10
-          ∷ northEast 10 10
-          ∷ [];
-    }
+-- so many points northward along E010, and their text, a ` - ` after each
+unfoldable pub climb : ℕ → ℕ → List Point
+climb north zero = []
+climb north (suc n) = northEast north 10 ∷ climb (suc north) n
+
+unfoldable pub climbText : ℕ → ℕ → List ℕ
+climbText north zero = []
+climbText north (suc n) = bytes "N" ++ (inFigures 2 north ++ (bytes " E010 - " ++ climbText (suc north) n))
+
+-- the longest outline: one point less than there may be, and then the first again
+abbrev pub longestOutline : Extent
+longestOutline = record { location = Outline mostPoints; points = climb 10 (mostPoints - 1) ++ (northEast 10 10 ∷ []) }
+
+-- the sample with the longest outline but for its last point, and this text from there on
+abbrev pub lastPoint : String → List ℕ
+lastPoint rest = reporting "WI " ++ (climbText 10 (mostPoints - 1) ++ bytes rest)
 
 -- a name of 50 characters
 abbrev pub fiftyName : Name
@@ -156,10 +157,7 @@ eruptionRecord =
                       ∷ point (coordinate (code "N") 2 1 0) (coordinate (code "E") 3 10 0)
                       ∷ point (coordinate (code "N") 2 1 0) (coordinate (code "E") 3 11 0)
                       ∷ point (coordinate (code "S") 4 0 0) (coordinate (code "E") 5 10 0)
-                      ∷ noPoint
-                      ∷ noPoint
-                      ∷ noPoint
-                      ∷ [];
+                      ∷ replicate (mostPoints - 4) noPoint;
                 };
             level = TopAboveFlight 350;
             ending = Stationary 3;

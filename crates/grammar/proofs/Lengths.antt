@@ -372,7 +372,7 @@ text-length r =
     rw (length-append h, length-append l, length-append b)
     (omega (arith, line-size (headingWords (r .heading)), line-size (lineWords (r .line)), line-size (bodyWords r)))
 
--- the longest words of every section, each with its space, and two locations: 478 bytes with outlines of 7 points
+-- the longest words of every section, each with its space, and two locations
 pub text-short : (r : Record) → good r ≡ true → length (textOf r) ≤ 262 + 2 * locationMost
 unfolding bodyWords
 text-short r g =

@@ -89,7 +89,7 @@ observedWord n = pick (eqb n 1) (bytes "OBS") (bytes "FCST")
 abbrev pub axisOf : ℕ → Axis
 axisOf width = record { width = width; greatest = 0; plus = 0; minus = 0 }
 
--- "`WI` and 4 to 7 points joined by the word `-`"
+-- "`WI` and … points joined by the word `-`"
 abbrev pub outlineWords : ℕ → List Point → List (List ℕ)
 outlineWords n points = bytes "WI" ∷ joined (take n points)
 

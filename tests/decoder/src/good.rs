@@ -1,6 +1,7 @@
 //! Good messages as lists of words; on demand with slips that only the
 //! neighbouring words give away (a slip is a part against the rules).
 
+use crate::grammar::{LEAST_POINTS, MOST_POINTS};
 use crate::rng::Rng;
 use crate::shapes::{COMPASS, INTENSITY};
 
@@ -221,7 +222,7 @@ impl Maker<'_> {
         let few_lats = ["N00", "S0000", "N10", "S10", "N1000", "N90", "S9000"];
         let few_lons = ["E180", "W180", "W18000", "E000", "W00000", "E01000", "E010"];
         let mut points: Vec<(String, String)> = Vec::new();
-        let (low, high) = if self.slip() { (2, 8) } else { (4, 7) };
+        let (low, high) = if self.slip() { (2, MOST_POINTS + 1) } else { (LEAST_POINTS, MOST_POINTS) };
         let count = self.rng.within(low, high);
         while points.len() < count - 1 {
             let lat = if small { self.rng.pick(&few_lats).to_string() } else { latitude(self.rng) };

@@ -38,6 +38,10 @@ enum Part {
     End,
 }
 
+/// "Outline: `WI` and 4 to 7 points joined by the word `-`."
+pub const LEAST_POINTS: usize = 4;
+pub const MOST_POINTS: usize = 7;
+
 const CLOSING: &[&str] = &["FIR", "FIR/UIR", "CTA"];
 const LATITUDE: Part = Like(|w| latitude(w).is_some());
 const LONGITUDE: Part = Like(|w| longitude(w).is_some());
@@ -218,11 +222,11 @@ impl Parser {
         true
     }
 
-    /// Six points stand before the seventh, which can only be the first again.
+    /// The last point that an outline may have can only be the first again.
     fn outline_latitude(&mut self, word: &str) -> bool {
         let Some(value) = latitude(word) else { return false };
         self.latitude = value;
-        self.points.len() < 6 || value == self.points[0].0
+        self.points.len() + 1 < MOST_POINTS || value == self.points[0].0
     }
 
     fn outline_longitude(&mut self, number: u8, word: &str) -> bool {
@@ -233,7 +237,7 @@ impl Parser {
         if !closed {
             self.push(number, &[One(&["-"]), OutlineLatitude, OutlineLongitude]);
         }
-        if closed { count >= 4 } else { count <= 6 }
+        if closed { count >= LEAST_POINTS } else { count < MOST_POINTS }
     }
 
     fn ending(&mut self, number: u8, word: &str) -> bool {

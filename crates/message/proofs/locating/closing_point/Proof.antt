@@ -7,15 +7,16 @@ use lib.ListN.{length, getD}
 use Rattle.lists.specs.Lists.{indexFrom}
 use Rattle.lists.proofs.Lists.{from-here, from-past, from-none}
 use Rattle.coordinates.specs.Points.{samePoint, noPoint}
+use Rattle.message.specs.Limits.{mostPoints}
 use Rattle.message.specs.Locations.{closingPoint}
 use Rattle.message.proofs.locating.closing_point.Statement.{statement}
 use Rattle.message.proofs.locating.closing_point.Tie as tie
 
 abbrev Inv-loop : tie.InvT-loop
-Inv-loop points first i₀ i = (length points ≡ 7) × (i ≤ 7) × (closingPoint points ≡ indexFrom (samePoint (getD points 0 noPoint)) i points)
+Inv-loop points first i₀ i = (length points ≡ mostPoints) × (i ≤ mostPoints) × (closingPoint points ≡ indexFrom (samePoint (getD points 0 noPoint)) i points)
 
 abbrev μ-loop : tie.MeasureT-loop
-μ-loop points first i₀ i = 7 - i
+μ-loop points first i₀ i = mostPoints - i
 
 array-copy-out-first : tie.Need-array-copy-out-first Inv-loop μ-loop
 array-copy-out-first c = search needs

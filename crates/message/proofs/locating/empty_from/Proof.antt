@@ -8,14 +8,15 @@ use lib.ListN.{length, drop}
 use Rattle.lists.specs.Lists.{allOf}
 use Rattle.lists.proofs.Lists.{all-past, all-stop, all-end}
 use Rattle.coordinates.specs.Points.{emptyPoint, noPoint}
+use Rattle.message.specs.Limits.{mostPoints}
 use Rattle.message.proofs.locating.empty_from.Statement.{statement}
 use Rattle.message.proofs.locating.empty_from.Tie as tie
 
 abbrev Inv-loop : tie.InvT-loop
-Inv-loop start points i₀ i = (length points ≡ 7) × (allOf emptyPoint (drop start points) ≡ allOf emptyPoint (drop i points))
+Inv-loop start points i₀ i = (length points ≡ mostPoints) × (allOf emptyPoint (drop start points) ≡ allOf emptyPoint (drop i points))
 
 abbrev μ-loop : tie.MeasureT-loop
-μ-loop start points i₀ i = 7 - i
+μ-loop start points i₀ i = mostPoints - i
 
 loop-holds : tie.Need-loop-holds Inv-loop μ-loop
 loop-holds c = (search needs, refl)

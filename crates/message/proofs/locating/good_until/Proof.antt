@@ -11,6 +11,7 @@ use Rattle.lists.specs.Lists.{allOf}
 use Rattle.lists.proofs.Lists.{all-past, all-stop, all-end}
 use Rattle.coordinates.specs.Points.{goodPoint, noPoint}
 use Rattle.coordinates.specs.declared.Point.{Point}
+use Rattle.message.specs.Limits.{mostPoints}
 use Rattle.message.proofs.locating.good_until.Statement.{statement}
 use Rattle.message.proofs.locating.good_until.Tie as tie
 
@@ -19,7 +20,7 @@ seen : (n : ℕ) (points : List Point) (i : ℕ) → n ≤ length points → i <
 seen n points i h k = (rw (length-take-le n points h) k, getD-take n points i noPoint k)
 
 abbrev Inv-loop : tie.InvT-loop
-Inv-loop n points i₀ i = (length points ≡ 7) × (i ≤ n) × (allOf goodPoint (take n points) ≡ allOf goodPoint (drop i (take n points)))
+Inv-loop n points i₀ i = (length points ≡ mostPoints) × (i ≤ n) × (allOf goodPoint (take n points) ≡ allOf goodPoint (drop i (take n points)))
 
 abbrev μ-loop : tie.MeasureT-loop
 μ-loop n points i₀ i = n - i
