@@ -26,7 +26,7 @@ use Rattle.message.specs.Records.{namesItself}
 use Rattle.message.specs.Sample.{sample, sampleText}
 use Rattle.message.specs.Words.{testTexts}
 use Rattle.cases.specs.Samples.{reporting, eastOf, E180, bulletin, laterSaying, located, cancelling}
-use Rattle.cases.specs.Cases.{saying, ashSaying, meridianOutline, climb, climbText, longestOutline, lastPoint, testing, testingFifty, eruptionText, eruptionRecord, correctedText, correctedRecord}
+use Rattle.cases.specs.Cases.{saying, ashSaying, meridianOutline, climb, climbText, longestOutline, lastPoint, longestTwice, foreseen, testing, testingFifty, eruptionText, eruptionRecord, correctedText, correctedRecord}
 use Rattle.grammar.specs.Placing.{pointed, locating, placeStep}
 use Rattle.grammar.specs.Bulletins.{acceptance, refusal}
 use Rattle.grammar.specs.Reads.{readOf}
@@ -268,6 +268,10 @@ outline-second = refl
 pub longest-read : readOf (lastPoint "N10 E010 SFC/FL100 MOV E 20KT WKN=") ≡ acceptance (located longestOutline)
 unfolding opened
 longest-read = refl
+
+pub longest-twice : readOf longestTwice ≡ acceptance (foreseen longestOutline)
+unfolding opened
+longest-twice = refl
 
 -- the last has the latitude of point 1 and not its longitude, four bytes further
 pub last-longitude : readOf (lastPoint "N10 E011 SFC/FL100 STNR NC=") ≡ refusal 9 (102 + 11 * (mostPoints - 1)) 4

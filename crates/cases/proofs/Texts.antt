@@ -1,6 +1,6 @@
 -- The records of the cases, given field by field, are good, and the texts that they were read from are their canonical texts. And the writer, on
 -- the sample and on the empty record.
-use mathlib.Core.Bool.{Bool, true}
+use mathlib.Core.Bool.{Bool, true, not}
 use mathlib.Core.List.{List, [], _∷_, _++_}
 use mathlib.Core.Path.{_≡_, refl}
 use Prim.Native.Nat.{ℕ}
@@ -28,7 +28,7 @@ use Rattle.message.specs.Words.{headingWords, lineWords, areaWords, testTexts, 
 use Rattle.message.specs.declared.Record.{Record}
 use Rattle.grammar.specs.Writes.{writeOf}
 use Rattle.cases.specs.Samples.{reporting, eastOf, E180, laterSaying, located, cancelling}
-use Rattle.cases.specs.Cases.{saying, meridianOutline, climb, climbText, longestOutline, lastPoint, testing, testingFifty, eruptionText, eruptionRecord, correctedText, correctedRecord}
+use Rattle.cases.specs.Cases.{saying, meridianOutline, climb, climbText, closedAt, longestOutline, lastPoint, testing, testingFifty, eruptionText, eruptionRecord, correctedText, correctedRecord}
 
 -- the record is good, and that is its text
 pub record Shown (r : Record) (text : List ℕ) : Type 0 where
@@ -77,6 +77,15 @@ fifty-text = record { isGood = refl; written = refl }
 pub meridian-text : Shown (located meridianOutline) (reporting "WI N10 E180 - N11 E180 - N11 E179 - N10 W18000 SFC/FL100 MOV E 20KT WKN=")
 unfolding opened
 meridian-text = record { isGood = refl; written = refl }
+
+-- 02, CR 7: "Outlines may have 4 to 20 written points": closed at each of these, and not before
+pub closed-at-each : allOf (λ (n : ℕ). goodOutline n (closedAt n)) (4 ∷ 5 ∷ 6 ∷ 7 ∷ 8 ∷ 9 ∷ 10 ∷ 11 ∷ 12 ∷ 13 ∷ 14 ∷ 15 ∷ 16 ∷ 17 ∷ 18 ∷ 19 ∷ 20 ∷ []) ≡ true
+unfolding opened
+closed-at-each = refl
+
+pub closed-too-early : allOf (λ (n : ℕ). not (goodOutline n (closedAt n))) (1 ∷ 2 ∷ 3 ∷ []) ≡ true
+unfolding opened
+closed-too-early = refl
 
 pub longest-text : Shown (located longestOutline) (lastPoint "N10 E010 SFC/FL100 MOV E 20KT WKN=")
 unfolding opened

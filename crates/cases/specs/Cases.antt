@@ -17,7 +17,7 @@ use Rattle.levels.specs.declared.Level.the-variants.{Band, TopAboveFlight}
 use Rattle.message.specs.Limits.{mostPoints}
 use Rattle.message.specs.Locations.{noExtent}
 use Rattle.message.specs.Reports.{noVolcano, noReport}
-use Rattle.message.specs.Sample.{dayAndTime}
+use Rattle.message.specs.Sample.{dayAndTime, sample}
 use Rattle.message.specs.declared.Area.{Area}
 use Rattle.message.specs.declared.Ending.the-variants.{Stationary, Forecast}
 use Rattle.message.specs.declared.Extent.{Extent}
@@ -98,13 +98,40 @@ unfoldable pub climbText : ℕ → ℕ → List ℕ
 climbText north zero = []
 climbText north (suc n) = bytes "N" ++ (inFigures 2 north ++ (bytes " E010 - " ++ climbText (suc north) n))
 
--- the longest outline: one point less than there may be, and then the first again
+-- an outline of so many points: one less, and then the first again
+abbrev pub closedAt : ℕ → List Point
+closedAt n = climb 10 (n - 1) ++ (northEast 10 10 ∷ replicate (mostPoints - n) noPoint)
+
 abbrev pub longestOutline : Extent
-longestOutline = record { location = Outline mostPoints; points = climb 10 (mostPoints - 1) ++ (northEast 10 10 ∷ []) }
+longestOutline = record { location = Outline mostPoints; points = closedAt mostPoints }
 
 -- the sample with the longest outline but for its last point, and this text from there on
 abbrev pub lastPoint : String → List ℕ
 lastPoint rest = reporting "WI " ++ (climbText 10 (mostPoints - 1) ++ bytes rest)
+
+-- … with the longest outline in a forecast, too
+abbrev pub longestTwice : List ℕ
+longestTwice = lastPoint "N10 E010 SFC/FL100 WKN FCST AT 1230Z WI " ++ (climbText 10 (mostPoints - 1) ++ bytes "N10 E010=")
+
+-- the sample's record with that location both times
+abbrev pub foreseen : Extent → Record
+foreseen e =
+    record {
+      heading = sample .heading;
+      line = sample .line;
+      area = sample .area;
+      form = Reported;
+      report =
+          record {
+            phenomenon = sample .report .phenomenon;
+            volcano = noVolcano;
+            observation = sample .report .observation;
+            extent = e;
+            level = sample .report .level;
+            ending = Forecast 2;
+            forecast = e;
+          };
+    }
 
 -- a name of 50 characters
 abbrev pub fiftyName : Name

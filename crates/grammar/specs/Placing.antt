@@ -51,7 +51,7 @@ abbrev pub sameLatitude : List Point → Coordinate → Bool
 sameLatitude [] c = false
 sameLatitude (first ∷ ps) c = sameValue (first .latitude) c
 
--- one more point still leaves room for another: "4 to 7 points"
+-- one more point still leaves room for another: 02, CR 7, "4 to 20 written points"
 abbrev pub roomAfter : List Point → Bool
 roomAfter ps = ltb (length ps + 1) mostPoints
 

@@ -10,12 +10,12 @@ nameBytes = 50
 abbrev pub mountainLimit : ℕ
 mountainLimit = 30
 
--- "`WI` and 4 to 7 points"
+-- 02, CR 7: "Outlines may have 4 to 20 written points, for the location and for the forecast."
 abbrev pub leastPoints : ℕ
 leastPoints = 4
 
 abbrev pub mostPoints : ℕ
-mostPoints = 7
+mostPoints = 20
 
 -- the kinds of bulletin, as the listing numbers them
 abbrev pub ws : ℕ

@@ -43,7 +43,7 @@ noPoints ps = both (eqb (length ps) mostPoints) (allOf emptyPoint ps)
 abbrev pub closingPoint : List Point → ℕ
 closingPoint ps = indexFrom (samePoint (getD ps 0 noPoint)) 1 ps
 
--- "`WI` and 4 to 7 points joined by the word `-`. It ends at the first later point equal to point 1, and that may not be point 2 or 3."
+-- "`WI` and … points joined by the word `-`. It ends at the first later point equal to point 1, and that may not be point 2 or 3."
 unfoldable pub goodOutline : ℕ → List Point → Bool
 goodOutline n ps =
     both (between leastPoints mostPoints n)

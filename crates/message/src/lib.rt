@@ -40,7 +40,7 @@ pub const MOUNTAIN_BYTES: usize = 30;
 // How many points an outline has, the closing one counted.
 pub const LEAST_POINTS: usize = 4;
 
-pub const MOST_POINTS: usize = 7;
+pub const MOST_POINTS: usize = 20;
 
 // Phenomena, in the paper's order. The storms are 1 to 8: OBSC, EMBD, FRQ and SQL, each with TS and then with TSGR.
 pub const SEV_TURB: u8 = 9;
