@@ -2,6 +2,7 @@
 //! neighbouring words give away (a slip is a part against the rules).
 
 use crate::grammar::{LEAST_POINTS, MOST_POINTS};
+use crate::outlines::LONG;
 use crate::rng::Rng;
 use crate::shapes::{COMPASS, INTENSITY};
 
@@ -65,6 +66,11 @@ fn respell(rng: &mut Rng, word: &str) -> String {
     format!("{letter}{degrees}{}", rng.pick(&["", "00"]))
 }
 
+/// An equal point, perhaps in other letters and digits.
+fn respelled(rng: &mut Rng, point: &(String, String)) -> (String, String) {
+    (respell(rng, &point.0), respell(rng, &point.1))
+}
+
 pub fn level(rng: &mut Rng) -> String {
     let fl = rng.within(1, 999);
     match rng.below(9) {
@@ -112,7 +118,7 @@ impl Maker<'_> {
         m.name(50, &["FIR", "CTA"]);
         let closing = m.rng.pick(&["FIR", "FIR/UIR", "CTA"]);
         m.say(closing);
-        match m.rng.below(10) {
+        match m.rng.below(12) {
             0 => m.test(),
             1 | 2 => m.cancellation(&seq, &start, &end),
             _ => {
@@ -201,7 +207,8 @@ impl Maker<'_> {
     fn location(&mut self, closing: &str) {
         let (lat, lon) = (latitude(self.rng), longitude(self.rng));
         let (ns, ew) = (self.rng.pick(&["N", "S"]), self.rng.pick(&["E", "W"]));
-        match self.rng.below(9) {
+        // Mostly outlines, and these mostly long: what is counted in `outlines.rs` rests on it.
+        match self.rng.below(18) {
             0 => self.say(&format!("{ns} OF {lat}")),
             1 => self.say(&format!("{ew} OF {lon}")),
             2 if self.slip() => self.say(&format!("{ew} OF {lon} AND {ns} OF {lat}")),
@@ -222,8 +229,13 @@ impl Maker<'_> {
         let few_lats = ["N00", "S0000", "N10", "S10", "N1000", "N90", "S9000"];
         let few_lons = ["E180", "W180", "W18000", "E000", "W00000", "E01000", "E010"];
         let mut points: Vec<(String, String)> = Vec::new();
-        let (low, high) = if self.slip() { (2, MOST_POINTS + 1) } else { (LEAST_POINTS, MOST_POINTS) };
-        let count = self.rng.within(low, high);
+        let count = if self.slip() {
+            [LEAST_POINTS - 2, LEAST_POINTS - 1, MOST_POINTS + 1][self.rng.below(3)]
+        } else if self.rng.one_in(5) {
+            self.rng.within(LEAST_POINTS, LONG - 1)
+        } else {
+            self.rng.within(LONG, MOST_POINTS)
+        };
         while points.len() < count - 1 {
             let lat = if small { self.rng.pick(&few_lats).to_string() } else { latitude(self.rng) };
             let lon = if small { self.rng.pick(&few_lons).to_string() } else { longitude(self.rng) };
@@ -232,16 +244,21 @@ impl Maker<'_> {
                 points.push((lat, lon));
             }
         }
-        let (lat, lon) = points[0].clone();
-        let mut last = (respell(self.rng, &lat), respell(self.rng, &lon));
+        let mut last = respelled(self.rng, &points[0]);
         if self.slip() {
-            match self.rng.below(3) {
+            match self.rng.below(4) {
                 0 => last.0 = latitude(self.rng),
                 1 => last.1 = longitude(self.rng),
+                2 => last.0 = last.0.replace('N', "?").replace('S', "N").replace('?', "S"),
                 _ => last.1 = last.1.replace('E', "?").replace('W', "E").replace('?', "W"),
             }
         }
         points.push(last);
+        // Closed before its last point.
+        if self.slip() && self.rng.one_in(3) {
+            let early = 1 + self.rng.below(points.len() - 1);
+            points[early] = respelled(self.rng, &points[0]);
+        }
         if self.slip() && self.rng.one_in(3) {
             points.push((latitude(self.rng), longitude(self.rng)));
         }
@@ -252,9 +269,9 @@ impl Maker<'_> {
     fn ending(&mut self, ash: bool, closing: &str, end: &str) {
         let intensity = self.rng.pick(INTENSITY);
         let unit = self.rng.pick(&["KT", "KMH"]);
-        match self.rng.below(3) {
+        match self.rng.below(4) {
             0 => self.say(&format!("STNR {intensity}")),
-            1 if !ash || self.slip() => {
+            1 | 2 if !ash || self.slip() => {
                 let at = if self.slip() { time(self.rng) } else { format!("{}Z", &end[2..]) };
                 self.say(&format!("{intensity} FCST AT {at}"));
                 self.location(closing);

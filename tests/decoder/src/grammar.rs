@@ -38,9 +38,9 @@ enum Part {
     End,
 }
 
-/// "Outline: `WI` and 4 to 7 points joined by the word `-`."
+/// "Outlines may have 4 to 20 written points, for the location and for the forecast."
 pub const LEAST_POINTS: usize = 4;
-pub const MOST_POINTS: usize = 7;
+pub const MOST_POINTS: usize = 20;
 
 const CLOSING: &[&str] = &["FIR", "FIR/UIR", "CTA"];
 const LATITUDE: Part = Like(|w| latitude(w).is_some());

@@ -1,5 +1,5 @@
-//! decoder [read] | generate SEED COUNT | tables SEED COUNT FOLDER | turns FOLDER | judge | compare SEED COUNT PROGRAM [ARGUMENT...]
-//! | replay | script SEED INDEX | boards SEED COUNT PROGRAM [ARGUMENT...]
+//! decoder [read] | generate SEED COUNT | outlines SEED COUNT | tables SEED COUNT FOLDER | turns FOLDER | judge
+//! | compare SEED COUNT PROGRAM [ARGUMENT...] | replay | script SEED INDEX | boards SEED COUNT PROGRAM [ARGUMENT...]
 
 mod boards;
 mod compare;
@@ -9,6 +9,7 @@ mod good;
 mod grammar;
 mod history;
 mod instants;
+mod outlines;
 mod rng;
 mod script;
 mod scripts;
@@ -40,6 +41,7 @@ fn main() {
                 println!("{:8} b\"{}\"", generate::CLASSES[class], text.escape_ascii());
             }
         }
+        ["outlines", seed, count] => print!("{}", outlines::table(number(seed), number(count))),
         ["tables", seed, count, folder] => table::random(number(seed), number(count), folder).expect("the folder"),
         ["turns", folder] => table::turns(folder).expect("the folder"),
         ["judge"] => print!("{}", table::judge(&std::io::read_to_string(std::io::stdin()).expect("standard input"))),
@@ -67,7 +69,7 @@ fn main() {
 }
 
 fn usage() -> ! {
-    eprintln!("usage: decoder [read] | generate SEED COUNT | tables SEED COUNT FOLDER | turns FOLDER | judge");
+    eprintln!("usage: decoder [read] | generate SEED COUNT | outlines SEED COUNT | tables SEED COUNT FOLDER | turns FOLDER | judge");
     eprintln!("               | compare SEED COUNT PROGRAM [ARGUMENT...] | replay | script SEED INDEX | boards SEED COUNT PROGRAM [ARGUMENT...]");
     exit(2)
 }

@@ -238,7 +238,7 @@ impl Writer<'_> {
         loop {
             let index = self.rng.below(1 << 40) as u64;
             let (_, text) = bulletin(self.seed, index);
-            if text.len() < 500 || self.rng.one_in(20) {
+            if text.len() < 1_000 || self.rng.one_in(20) {
                 return text;
             }
         }

@@ -1,6 +1,8 @@
 use crate::decode::decode;
 use crate::generate::{bulletin, may_follow, CLASSES};
+use crate::grammar::{LEAST_POINTS, MOST_POINTS};
 use crate::instants;
+use crate::outlines::{outlines, LONG};
 use crate::script::replay;
 use crate::scripts::script;
 use crate::shapes::{latitude, longitude};
@@ -70,8 +72,8 @@ const BODIES: &[(&str, u8, &str)] = &[
     ("WS", 9, "QBBB A FIR SEV ICE OBS WI N00 E180 - N01 E001 - S0000 ^W18000^ FL100="),
     ("WS", 10, "QBBB A FIR SEV ICE OBS WI N00 E180 - N01 E001 - N02 E001 - S0000 W18000 ^-^ N01="),
     ("WS", 9, "QBBB A FIR SEV ICE OBS WI N00 E180 - N01 E001 - N02 E001 - N03 E001 ^FL100^="),
-    ("WS", 9, "QBBB A FIR SEV ICE OBS WI N00 E180 - N01 E001 - N02 E001 - N03 E001 - N00 E001 - N00 E002 - ^N01^ E180="),
-    ("WS", 9, "QBBB A FIR SEV ICE OBS WI N00 E180 - N01 E001 - N02 E001 - N03 E001 - N00 E001 - N00 E002 - S00 ^W179^="),
+    ("WS", 9, "QBBB A FIR SEV ICE OBS WI N00 E180 - N01 E001 - N02 E001 - N03 E001 - N00 E001 - N00 E002 - N01 E180 ^=^"),
+    ("WS", 9, "QBBB A FIR SEV ICE OBS WI N00 E180 - N01 E001 - N02 E001 - N03 E001 - N00 E001 - N00 E002 - S00 W179 ^=^"),
     ("WS", 10, "QBBB A FIR SEV ICE OBS WI N00 E180 - N01 E001 - N02 E001 - N03 E001 - N00 E001 - N00 E002 - S00 W180 ^=^"),
     ("WV", 7, "QBBB A FIR VA ERUPTION ^VA^ CLD="), ("WV", 7, "QBBB A FIR VA ERUPTION MT ^PSN^ N00 E000="),
     ("WV", 8, "QBBB A FIR VA ERUPTION MT FIR CTA PSN N00 E000 VA CLD ^=^"), ("WV", 7, "QBBB A FIR VA ERUPTION PSN N00 ^VA^ CLD="),
@@ -88,6 +90,136 @@ fn places_of_refusal() {
             _ => ("", ""),
         };
         assert_eq!(verdict(text.replace('^', "")), (*number, before.len(), word.len()), "{text}");
+    }
+}
+
+/// Nineteen points of eleven bytes, ` - ` included, none of them the first again: the first k with their `WI ` are 11 k bytes.
+const NINETEEN: &str = "WI N00 E180 - N01 E001 - N02 E002 - N03 E003 - N04 E004 - N05 E005 - N06 E006 - N07 E007 - N08 E008 - N09 E009 \
+    - N10 E010 - N11 E011 - N12 E012 - N13 E013 - N14 E014 - N15 E015 - N16 E016 - N17 E017 - N18 E018";
+
+/// So many points, the last of them this one.
+fn outline(points: usize, last: &str) -> String {
+    format!("{} - {last}", &NINETEEN[..11 * (points - 1)])
+}
+
+/// The sample with this location, which stands at 95.
+fn located(location: &str) -> String {
+    SAMPLE.replace("E OF E114", location)
+}
+
+/// The sample with this forecast's location, which stands at 133.
+fn forecast(location: &str) -> String {
+    SAMPLE.replace("MOV E 20KT WKN", &format!("WKN FCST AT 1230Z {location}"))
+}
+
+/// Points equal to the first of the nineteen, two of them across the meridian of 180 degrees.
+const AGAIN: [&str; 4] = ["N00 E180", "S00 W180", "N0000 E18000", "S0000 W18000"];
+
+#[test]
+fn outlines_close_at_4_to_20_points() {
+    assert_eq!((LEAST_POINTS, MOST_POINTS), (4, 20));
+    for points in 4..=20 {
+        for last in AGAIN {
+            let closed = outline(points, last);
+            let both = forecast(&closed).replace("E OF E114", &closed);
+            for text in [located(&closed), forecast(&closed), both] {
+                assert_eq!(verdict(&text), (0, 0, 0), "{text}");
+                assert_eq!(decode(text.as_bytes()).canonical, text.as_bytes());
+            }
+            // It has ended: a `-` is a bad level, or stands where `=` would be accepted.
+            let (more, end) = (format!("{closed} - N01 E001"), closed.len());
+            assert_eq!(verdict(located(&more)), (10, 95 + end + 1, 1));
+            assert_eq!(verdict(forecast(&more)), (12, 133 + end + 1, 1));
+        }
+    }
+    // Twenty points of eleven bytes each for the nine of the bound, and 18 and as many again for the 14 of the movement.
+    let twenty = outline(20, "N00 E180");
+    let both = forecast(&twenty).replace("E OF E114", &twenty);
+    assert_eq!((twenty.len(), both.len()), (220, 130 - 9 + 220 - 14 + 18 + 220));
+    // Inner points may be equal to one another.
+    assert_eq!(verdict(located("WI N00 E180 - N01 E001 - N01 E001 - N01 E001 - N0100 E00100 - N00 E180")), (0, 0, 0));
+}
+
+/// Point k stands 3 + 11 (k - 1) bytes into its outline, its longitude 4 bytes further: 14 and 18 for point 2, 25 and 29 for point 3.
+#[test]
+fn outlines_may_not_close_at_2_or_3_points() {
+    for last in ["N00 E180", "S00 W180"] {
+        assert_eq!(verdict(located(&outline(2, last))), (9, 95 + 18, 4));
+        assert_eq!(verdict(located(&outline(3, last))), (9, 95 + 29, 4));
+        assert_eq!(verdict(forecast(&outline(2, last))), (11, 133 + 18, 4));
+        assert_eq!(verdict(forecast(&outline(3, last))), (11, 133 + 29, 4));
+    }
+    assert_eq!(verdict(located(&outline(3, "S0000 W18000"))), (9, 95 + 25 + 6, 6));
+}
+
+/// Point 20 stands 3 + 11 * 19 = 212 bytes into its outline, its longitude at 216.
+#[test]
+fn outlines_close_at_20_points_at_the_latest() {
+    // Another latitude shows it, whatever the longitude; else the longitude does.
+    for (last, into, length) in [
+        ("N19 E019", 212, 3), ("N01 E180", 212, 3), ("N0001 W18000", 212, 5), ("N91 E180", 212, 3), ("- N00 E180", 212, 1),
+        ("N00 E179", 216, 4), ("N00 E000", 216, 4), ("S00 W17959", 216, 6), ("S0000 W000", 218, 4), ("N00 E181", 216, 4), ("N00 -", 216, 1),
+    ] {
+        // Alone, and with a point 21 that would be the first again.
+        for open in [outline(20, last), outline(20, last) + " - N00 E180"] {
+            assert_eq!(verdict(located(&open)), (9, 95 + into, length), "{open}");
+            assert_eq!(verdict(forecast(&open)), (11, 133 + into, length), "{open}");
+            // Behind a location of twenty points, 220 bytes for nine.
+            let both = forecast(&open).replace("E OF E114", &outline(20, "S0000 W180"));
+            assert_eq!(verdict(both), (11, 133 + 211 + 2 + into, length), "{open}");
+        }
+    }
+    // With fewer points a `-` must follow: the level's 9 bytes, or the `=`, stand for it.
+    for points in 1..=19 {
+        let open = &NINETEEN[..11 * points];
+        assert_eq!(verdict(located(open)), (9, 95 + 11 * points + 1, 9));
+        assert_eq!(verdict(forecast(open)), (11, 133 + 11 * points, 1));
+    }
+    // The first point's latitude does not close an outline, nor does its longitude.
+    assert_eq!(verdict(located(&outline(19, "N00 E179"))), (9, 95 + 11 * 19 + 1, 9));
+    assert_eq!(verdict(located(&outline(19, "N01 E180"))), (9, 95 + 11 * 19 + 1, 9));
+}
+
+/// More than a third of the random bulletins have a long outline and more than a third none; with every number of points, and every end.
+#[test]
+fn random_outlines_have_all() {
+    assert_eq!(outlines(b"FCST AT 0000Z\nWI N00 E180 - N01\r\nE001 - FL100 NC FCST AT 0400Z WI N00 E000="), (2, 1));
+    assert_eq!((outlines(located(NINETEEN).as_bytes()), outlines(forecast(&outline(8, "N91 E000")).as_bytes())), ((19, 0), (0, 7)));
+    let (mut long, mut read, mut refused) = (0, std::collections::BTreeSet::new(), std::collections::BTreeSet::new());
+    for index in 0..20_000 {
+        let (_, text) = bulletin(1, index);
+        let (location, forecast) = outlines(&text);
+        long += usize::from(location.max(forecast) >= LONG);
+        let reply = decode(&text);
+        if reply.number == 0 {
+            read.extend([("location", location), ("forecast", forecast)]);
+            if (location, forecast) == (20, 20) {
+                read.insert(("both", 20));
+            }
+        } else if reply.number > 8 {
+            // How many words after `WI` the refused one stands, where it is one that another outline might have there.
+            let words = cut(&text).unwrap();
+            let at = words.iter().position(|w| w.place == reply.place).unwrap();
+            let after = at - words[..at].iter().rposition(|w| w.text == "WI").unwrap_or(at);
+            let word = words[at].text;
+            if [word == "-", latitude(word).is_some(), longitude(word).is_some()][after % 3] {
+                refused.insert((reply.number, after));
+            }
+        }
+    }
+    assert!(long * 3 > 20_000 && (20_000 - long) * 3 > 20_000, "{long}");
+    for points in 4..=20 {
+        assert!(read.contains(&("location", points)) && read.contains(&("forecast", points)), "{points}");
+        // Closed, and on with a `-`.
+        assert!(refused.contains(&(10, 3 * points)), "{points}");
+    }
+    assert!(read.contains(&("both", 20)));
+    assert!((LONG..=20).any(|points| refused.contains(&(12, 3 * points))));
+    for number in [9, 11] {
+        // The longitudes of points 2 and 3, the latitude and the longitude of point 20.
+        for word in [5, 8, 58, 59] {
+            assert!(refused.contains(&(number, word)), "{number} {word}");
+        }
     }
 }
 
