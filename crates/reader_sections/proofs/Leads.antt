@@ -15,6 +15,7 @@ use Rattle.figures.specs.Codes.{codeOf, FixedWord}
 use Rattle.figures.proofs.CodeLaws.{same-code}
 use Rattle.headings.specs.Headings.{correctionOf, goodCorrection}
 use Rattle.message.specs.declared.Record.{Record}
+use Rattle.grammar.specs.declared.Reply.{Reply}
 use Rattle.grammar.specs.Bulletins.{acceptance, refusal}
 use Rattle.grammar.specs.Reads.{replyOf}
 use Rattle.grammar.specs.Runs.Ran.{refused}
@@ -25,7 +26,7 @@ use Rattle.grammar.specs.States.{State}
 use Rattle.grammar.specs.Steps.{step}
 use Rattle.reader_sections.specs.declared.steps.Step.{Step}
 use Rattle.reader_sections.specs.Openings.{CorrectionSays}
-use Rattle.reader_sections.specs.Steps.{wordOn, concluded, WordAt, runOn, Leads, Finishes, Stands, Before, Judged, Takes, TakesFixed, TakesLong, MayTake, Closes}
+use Rattle.reader_sections.specs.Steps.{wordOn, concluded, WordAt, runOn, Leads, Replies, Stands, Before, Judged, Takes, TakesFixed, TakesLong, MayTake, Closes}
 use Rattle.reader_sections.proofs.OneWord.{Goes, good-word, bad-word, goes-word, same-word}
 use Rattle.reader_sections.proofs.RunsAt.{OnlyWords, part-test, part-passes, in-text, skip, word-again}
 use Rattle.reader_sections.proofs.Tells.{FieldTells, correction-tells}
@@ -34,8 +35,8 @@ module _ {s mid : State} {t : List ℕ} {from to : Step} (g : Leads s t from to 
   pub then : {next : State} {to′ : Step} → Leads mid t to to′ next → Leads s t from to′ next
   then h = record { says = g .says ∙ h .says }
 
-  pub at-last : {r : Record} {to′ : Step} → Finishes mid t to to′ r → Finishes s t from to′ r
-  at-last h = record { says = g .says ∙ h .says }
+  pub replies-on : {r : Reply} → Replies mid t to r → Replies s t from r
+  replies-on h = record { says = h .says ∙ ap (replyOf t) (sym (g .says)) }
 
 -- a step that goes on
 pub on-going : (s : State) (t : List ℕ) (p : Step) → p .number ≡ 0 → runOn s t p ≡ runAt s t (p .place)
@@ -71,17 +72,21 @@ pub before-run : {t : List ℕ} {at : ℕ} {to : Step} (s : State) → Before t 
 before-run {t} {at} {to} s p = skip s t at ∙ (ap (runAt s t) (sym (p .placed)) ∙ sym (on-going s t to (p .going)))
 
 -- the reply to a text, from the step before its first word on
-module _ {s : State} {t : List ℕ} {start to : Step} (b : Before t 0 start) where
-  -- refused on the way
-  pub replied : {next : State} → Leads s t start to next → (to .number ≡ 0 → ⊥) → replyOf t (runAt s t 0) ≡ refusal (to .number) (to .place) (lengthAt t (to .place))
-  replied {next} g z = rw (before-run s b ∙ (g .says ∙ on-refused next t to z))
+pub replied : {s : State} {t : List ℕ} {start : Step} {r : Reply} → Before t 0 start → Replies s t start r → r ≡ replyOf t (runAt s t 0)
+replied {s} {t} b h = h .says ∙ ap (replyOf t) (sym (before-run s b))
 
-  module _ {r : Record} (g : Finishes s t start to r) where
-    pub answered : (to .number ≡ 0 → ⊥) → replyOf t (runAt s t 0) ≡ refusal (to .number) (to .place) (lengthAt t (to .place))
-    answered z = rw (before-run s b ∙ (g .says ∙ pick-false _ _ (ne-eqb (to .number) 0 z)))
+-- … where it is refused on the way, …
+pub replies-refused : {s next : State} {t : List ℕ} {from to : Step} {r : Reply} → Leads s t from to next → (to .number ≡ 0 → ⊥)
+    → r ≡ refusal (to .number) (to .place) (lengthAt t (to .place)) → Replies s t from r
+replies-refused {next = next} {t} {to = to} g z e = record { says = e ∙ ap (replyOf t) (sym (g .says ∙ on-refused next t to z)) }
 
-    pub accepts : to .number ≡ 0 → replyOf t (runAt s t 0) ≡ acceptance r
-    accepts z = rw (before-run s b ∙ (g .says ∙ pick-true _ _ (eq-eqb (to .number) 0 z)))
+-- … and at the `=`
+module _ {t : List ℕ} {from to : Step} (f : Stands t from) (c : Closes from to) {m : Record} {r : Reply} where
+  pub ends-refused : (to .number ≡ 0 → ⊥) → r ≡ refusal (to .number) (to .place) (lengthAt t (to .place)) → Replies (atEnd m) t from r
+  ends-refused z e = record { says = e ∙ ap (replyOf t) (sym (c .says t m f .says ∙ pick-false _ _ (ne-eqb (to .number) 0 z))) }
+
+  pub ends-accepted : to .number ≡ 0 → r ≡ acceptance m → Replies (atEnd m) t from r
+  ends-accepted z e = record { says = e ∙ ap (replyOf t) (sym (c .says t m f .says ∙ pick-true _ _ (eq-eqb (to .number) 0 z))) }
 
 -- past the word at a step
 pub past-leads : {s next : State} {t : List ℕ} {from to : Step} → Stands t from → from .number ≡ 0 → Goes s t (from .place) 0 (from .end) next → Before t (from .end) to

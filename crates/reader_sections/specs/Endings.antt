@@ -1,4 +1,4 @@
--- The ending, as equations of runs.
+-- The ending and the `=`, as equations of runs and of replies.
 -- Internal contract.
 use mathlib.Core.Bool.{Bool}
 use mathlib.Core.List.{List}
@@ -10,16 +10,31 @@ use Rattle.groups.specs.declared.Time.{Time}
 use Rattle.groups.specs.Groups.{goodTime}
 use Rattle.motions.specs.Motions.{intensityOf, goodIntensity}
 use Rattle.message.specs.declared.Ending.{Ending}
-use Rattle.message.specs.declared.Extent.{Extent}
-use Rattle.grammar.specs.Records.{areaOf, reportOf}
+use Rattle.message.specs.Locations.{noExtent}
+use Rattle.grammar.specs.declared.Reply.{Reply}
+use Rattle.grammar.specs.Records.{reportOf}
 use Rattle.grammar.specs.States.State.{atEnding, atCompass, atForecast, atEnd}
 use Rattle.grammar.specs.States.{ToLevel}
-use Rattle.grammar.specs.Steps.{goesIf, kindOf, sameTime, endTime, step}
+use Rattle.grammar.specs.Steps.{goesIf, sameTime, step}
+use Rattle.reader_sections.specs.declared.ending.UpToLevel.{UpToLevel}
 use Rattle.reader_sections.specs.declared.steps.Step.{Step}
-use Rattle.reader_sections.specs.Steps.{Stands, Leads}
+use Rattle.reader_sections.specs.Openings.{areaIn}
+use Rattle.reader_sections.specs.Steps.{Stands, Leads, Replies}
 
-pub record MovingSays (t : List ℕ) (from to : Step) (e : Ending) (f : Extent) : Type 0 where
-  pub says : (l : ToLevel) → Leads (atCompass l) t from to (atEnd (reportOf l e f))
+-- what was read up to the level, as the machine carries it
+abbrev pub levelIn : UpToLevel → ToLevel
+levelIn d =
+    record {
+      before =
+          record {
+            before = record { before = record { before = areaIn (d .opening); phenomenon = d .phenomenon; volcano = d .volcano }; observation = d .observation };
+            extent = d .extent;
+          };
+      level = d .level;
+    }
+
+pub record MovingSays (t : List ℕ) (from to : Step) (e : Ending) : Type 0 where
+  pub says : (l : ToLevel) → Leads (atCompass l) t from to (atEnd (reportOf l e noExtent))
   pub stands : Stands t to
 
 -- "the time being that of the end of VALID"
@@ -30,12 +45,5 @@ forecastTime end u = both (goodTime u) (sameTime u end)
 abbrev pub Forecasts : ToLevel → List ℕ → Type 0
 Forecasts l w = step (atEnding l) w ≡ goesIf (goodIntensity (intensityOf w)) (atForecast l (intensityOf w))
 
-pub record ForecastSays (closing : ℕ) (end : Time) (t : List ℕ) (from to : Step) (e : Ending) (f : Extent) : Type 0 where
-  pub says : (l : ToLevel) → areaOf l .area .closing ≡ closing → endTime l ≡ end → (from .number ≡ 0 → Forecasts l (wordFrom t (from .place)))
-      → Leads (atEnding l) t from to (atEnd (reportOf l e f))
-  pub stands : Stands t to
-
-pub record EndingSays (kind closing : ℕ) (end : Time) (t : List ℕ) (from to : Step) (e : Ending) (f : Extent) : Type 0 where
-  pub says : (l : ToLevel) → kindOf (areaOf l) ≡ kind → areaOf l .area .closing ≡ closing → endTime l ≡ end
-      → Leads (atEnding l) t from to (atEnd (reportOf l e f))
-  pub stands : Stands t to
+pub record ForecastSays (d : UpToLevel) (t : List ℕ) (from : Step) (r : Reply) : Type 0 where
+  pub says : (from .number ≡ 0 → Forecasts (levelIn d) (wordFrom t (from .place))) → Replies (atEnding (levelIn d)) t from r

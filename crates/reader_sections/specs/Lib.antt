@@ -7,4 +7,3 @@ pub mod Locations
 pub mod Outlines
 pub mod Endings
 pub mod Reports
-pub mod Bodies

@@ -8,6 +8,8 @@ use Rattle.message.specs.declared.Area.{Area}
 use Rattle.message.specs.declared.FirstLine.{FirstLine}
 use Rattle.message.specs.declared.Heading.{Heading}
 use Rattle.grammar.specs.States.State.{atDesignator, atCorrection, atUnit, atIndicator, atForm}
+use Rattle.grammar.specs.States.{ToArea}
+use Rattle.reader_sections.specs.declared.opening.Opening.{Opening}
 use Rattle.reader_sections.specs.declared.steps.Step.{Step}
 use Rattle.reader_sections.specs.Steps.{Stands, Leads}
 
@@ -29,7 +31,10 @@ pub record AreaSays (t : List ℕ) (from to : Step) (a : Area) : Type 0 where
   pub says : (h : Heading) (l : FirstLine) → Leads (atIndicator h l) t from to (atForm (record { heading = h; line = l; area = a }))
   pub stands : Stands t to
 
--- all three
-pub record OpeningSays (t : List ℕ) (from to : Step) (h : Heading) (l : FirstLine) (a : Area) : Type 0 where
-  pub says : Leads atDesignator t from to (atForm (record { heading = h; line = l; area = a }))
+-- all three, as the machine carries them
+abbrev pub areaIn : Opening → ToArea
+areaIn o = record { heading = o .heading; line = o .line; area = o .area }
+
+pub record OpeningSays (t : List ℕ) (from to : Step) (o : Opening) : Type 0 where
+  pub says : Leads atDesignator t from to (atForm (areaIn o))
   pub stands : Stands t to

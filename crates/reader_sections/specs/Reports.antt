@@ -5,23 +5,21 @@ use mathlib.Core.List.{List}
 use mathlib.Core.Path.{_≡_}
 use Prim.Native.Nat.{ℕ}
 use Rattle.words.specs.Words.{wordFrom}
-use Rattle.groups.specs.declared.Time.{Time}
 use Rattle.levels.specs.declared.Level.{Level}
 use Rattle.levels.specs.Levels.{levelOf}
-use Rattle.message.specs.declared.Form.the-variants.{Reported}
 use Rattle.message.specs.declared.Observation.{Observation}
-use Rattle.message.specs.declared.Report.{Report}
 use Rattle.message.specs.declared.Volcano.{Volcano}
-use Rattle.message.specs.Words.{timeOfDay}
+use Rattle.grammar.specs.declared.Reply.{Reply}
 use Rattle.grammar.specs.Placing.{is}
-use Rattle.grammar.specs.Records.{formed}
 use Rattle.grammar.specs.States.Placing.{atLocation}
 use Rattle.grammar.specs.States.Site.{inReport}
 use Rattle.grammar.specs.States.State.{atForm, atObservation, atObserved, atPlace, atLevel, atTop, atEnding}
 use Rattle.grammar.specs.States.{ToArea, ToPhenomenon, ToLocation}
 use Rattle.grammar.specs.Steps.{kindOf, flightOf}
+use Rattle.reader_sections.specs.declared.opening.Opening.{Opening}
 use Rattle.reader_sections.specs.declared.steps.Step.{Step}
-use Rattle.reader_sections.specs.Steps.{Stands, Leads, Finishes}
+use Rattle.reader_sections.specs.Openings.{areaIn}
+use Rattle.reader_sections.specs.Steps.{Stands, Leads, Replies}
 
 -- after `OBS` or `FCST`
 pub record ObservedSays (word : ℕ) (t : List ℕ) (from to : Step) (o : Observation) : Type 0 where
@@ -58,6 +56,5 @@ pub record PhenomenonSays (kind : ℕ) (t : List ℕ) (from to : Step) (phenomen
       → Leads (atForm o) t from to (atObservation (record { before = o; phenomenon = phenomenon; volcano = v }))
   pub stands : Stands t to
 
-pub record ReportSays (kind closing : ℕ) (end : Time) (t : List ℕ) (from to : Step) (r : Report) : Type 0 where
-  pub says : (o : ToArea) → kindOf o ≡ kind → o .area .closing ≡ closing → timeOfDay (o .line .valid .to) ≡ end → (from .number ≡ 0 → Reporting (wordFrom t (from .place)))
-      → Finishes (atForm o) t from to (formed o Reported r)
+pub record ReportSays (o : Opening) (t : List ℕ) (from : Step) (r : Reply) : Type 0 where
+  pub says : (from .number ≡ 0 → Reporting (wordFrom t (from .place))) → Replies (atForm (areaIn o)) t from r

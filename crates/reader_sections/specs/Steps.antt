@@ -14,6 +14,8 @@ use Rattle.words.specs.Words.{spanOf, wordFrom}
 use Rattle.figures.specs.Codes.{FixedWord}
 use Rattle.message.specs.declared.Record.{Record}
 use Rattle.grammar.specs.Numbers.{numberOf}
+use Rattle.grammar.specs.declared.Reply.{Reply}
+use Rattle.grammar.specs.Reads.{replyOf}
 use Rattle.grammar.specs.Runs.Ran.{accepted, refused}
 use Rattle.grammar.specs.Runs.{Ran, runAt}
 use Rattle.grammar.specs.States.Move.{goes}
@@ -48,6 +50,10 @@ pub record Leads (s : State) (t : List ℕ) (from to : Step) (next : State) : Ty
 -- … to the end of the message
 pub record Finishes (s : State) (t : List ℕ) (from to : Step) (r : Record) : Type 0 where
   pub says : runOn s t from ≡ concluded (to .number) (to .place) r
+
+-- … to the reply to the text
+pub record Replies (s : State) (t : List ℕ) (from : Step) (r : Reply) : Type 0 where
+  pub says : r ≡ replyOf t (runOn s t from)
 
 -- a step stands before a word, which is empty in the text where it is the `=`; a refused one before an empty word
 pub record Stands (t : List ℕ) (p : Step) : Type 0 where

@@ -9,16 +9,20 @@ use message::Area;
 use message::FirstLine;
 use message::Heading;
 
-pub(crate) struct OpeningRead {
-    pub step: Step,
+pub(crate) struct Opening {
     pub heading: Heading,
     pub line: FirstLine,
     pub area: Area,
 }
 
+pub(crate) struct OpeningRead {
+    pub step: Step,
+    pub opening: Opening,
+}
+
 pub(crate) fn read_opening(text: &[u8], from: Step) -> OpeningRead
     requires { ⌜ Stands (now text) from ⌝ }
-    ensures { λ r. ⌜ OpeningSays (now (text .entry)) from (r .step) (r .heading) (r .line) (r .area) ⌝ }
+    ensures { λ r. ⌜ OpeningSays (now (text .entry)) from (r .step) (r .opening) ⌝ }
 {
     let headed = read_heading(text, from);
     let lined = read_line(text, headed.step);
@@ -27,10 +31,10 @@ pub(crate) fn read_opening(text: &[u8], from: Step) -> OpeningRead
     let heading = headed.heading;
     let line = lined.line;
     let area = placed.area;
-    OpeningRead {
-        step,
+    let opening = Opening {
         heading,
         line,
         area,
-    }
+    };
+    OpeningRead { step, opening }
 }

@@ -23,7 +23,6 @@ use message::Extent;
 use message::LEAST_POINTS;
 use message::Location;
 use message::MOST_POINTS;
-use message::NO_EXTENT;
 use message::NO_POINTS;
 
 struct PointRead {
@@ -119,7 +118,7 @@ fn next_point(text: &[u8], from: Step, first: Point, count: usize, refusal: u8) 
     }
 }
 
-// The points after WI. A refused point ends the loop, for nothing is read behind it.
+// The points after WI. A refused point ends the loop, for nothing is read behind it; no other array is made for what is thrown away.
 pub(crate) fn read_outline(text: &[u8], from: Step, refusal: u8) -> LocationRead
     requires { ⌜ (Stands (now text) from) × (0 < refusal) ⌝ }
     ensures { λ r. ⌜ LocatedSays (atLatitude []) refusal (now (text .entry)) from (r .step) (r .extent) ⌝ }
@@ -134,7 +133,10 @@ pub(crate) fn read_outline(text: &[u8], from: Step, refusal: u8) -> LocationRead
         if step.number != 0 {
             return LocationRead {
                 step,
-                extent: NO_EXTENT,
+                extent: Extent {
+                    location: Location::Nowhere,
+                    points,
+                },
             };
         }
         let point = next.point;

@@ -1,56 +1,48 @@
 -- `read_body` meets its contract: TEST, `TEST.` and CNL are told by their codes, and any other word is judged as a phenomenon.
 use borrow.Author.Needs.{needs}
 use mathlib.Core.List.{List}
-use mathlib.Core.Path.{_≡_, ap}
+use mathlib.Core.Path.{_≡_}
 use Prim.Native.Nat.{ℕ}
 use Rattle.vocabulary.specs.Codes.{code-cnl, code-test, code-test-stop}
 use Rattle.vocabulary.proofs.FixedWords.{fixed-test, fixed-test-stop, fixed-cnl}
-use Rattle.message.specs.declared.FirstLine.{FirstLine}
-use Rattle.message.specs.declared.Form.the-variants.{Reported}
-use Rattle.message.specs.declared.Form.{Form}
-use Rattle.message.specs.declared.Report.{Report}
-use Rattle.message.specs.Words.{timeOfDay}
+use Rattle.grammar.specs.declared.Reply.{Reply}
 use Rattle.grammar.specs.States.State.{atForm, atTest, atTestText, atCancelSigmet}
 use Rattle.grammar.specs.Steps.{stepForm, step}
+use Rattle.reader_sections.specs.declared.opening.Opening.{Opening}
 use Rattle.reader_sections.specs.declared.steps.Step.{Step}
-use Rattle.reader_sections.specs.Bodies.{TestBodySays, LongTestBodySays, CancellationBodySays, BodySays}
+use Rattle.reader_sections.specs.Openings.{areaIn}
 use Rattle.reader_sections.specs.Reports.{ReportSays}
-use Rattle.reader_sections.specs.Steps.{Stands, Before}
+use Rattle.reader_sections.specs.Steps.{Stands, Before, Replies}
 use Rattle.reader_sections.proofs.NextCode.{codeAt, takes-code}
-use Rattle.reader_sections.proofs.Leads.{at-last, code-no}
+use Rattle.reader_sections.proofs.Leads.{replies-on, code-no}
 use Rattle.reader_sections.proofs.body.read_body.Statement.{statement}
 use Rattle.reader_sections.proofs.body.read_body.Tie as tie
 
-module _ {kind closing code : ℕ} {line : FirstLine} {t : List ℕ} {from to : Step} {r : Report} (f : Stands t from) (e : code ≡ codeAt t from) where
-  test : {a : Step} {form : Form} → code ≡ code-test → Before t (from .end) a → TestBodySays t a to form r → BodySays kind line closing t from to form r
+module _ {code : ℕ} {t : List ℕ} {from : Step} {o : Opening} {r : Reply} (f : Stands t from) (e : code ≡ codeAt t from) where
+  test : {a : Step} → code ≡ code-test → Before t (from .end) a → Replies (atTest (areaIn o)) t a r → Replies (atForm (areaIn o)) t from r
   unfolding step stepForm
-  test y p body = record { says = λ o k l q. at-last (takes-code f e fixed-test y p (atForm o) (atTest o) (λ z i. rw i)) (body .says o) }
+  test y p body = replies-on (takes-code f e fixed-test y p (atForm (areaIn o)) (atTest (areaIn o)) (λ z i. rw i)) body
 
   module _ (no-test : code ≡ code-test → ⊥) where
-    long-test : {a : Step} {form : Form} → code ≡ code-test-stop → Before t (from .end) a → LongTestBodySays t a to form r → BodySays kind line closing t from to form r
+    long-test : {a : Step} → code ≡ code-test-stop → Before t (from .end) a → Replies (atTestText (areaIn o) 3 1) t a r → Replies (atForm (areaIn o)) t from r
     unfolding step stepForm
-    long-test y p body = record {
-      says = λ o k l q. at-last (takes-code f e fixed-test-stop y p (atForm o) (atTestText o 3 1) (λ z i. rw (code-no f e z fixed-test no-test, i))) (body .says o);
-    }
+    long-test y p body =
+        replies-on (takes-code f e fixed-test-stop y p (atForm (areaIn o)) (atTestText (areaIn o) 3 1) (λ z i. rw (code-no f e z fixed-test no-test, i))) body
 
     module _ (no-stop : code ≡ code-test-stop → ⊥) where
-      cancellation : {a : Step} {form : Form} → code ≡ code-cnl → Before t (from .end) a → CancellationBodySays line t a to form r → BodySays kind line closing t from to form r
+      cancellation : {a : Step} → code ≡ code-cnl → Before t (from .end) a → Replies (atCancelSigmet (areaIn o)) t a r → Replies (atForm (areaIn o)) t from r
       unfolding step stepForm
-      cancellation y p body = record {
-        says = λ o k l q. at-last
-            (takes-code f e fixed-cnl y p (atForm o) (atCancelSigmet o) (λ z i. rw (code-no f e z fixed-test no-test, code-no f e z fixed-test-stop no-stop, i)))
-            (body .says o l);
-      }
+      cancellation y p body =
+          replies-on
+          (takes-code f e fixed-cnl y p (atForm (areaIn o)) (atCancelSigmet (areaIn o)) (λ z i. rw (code-no f e z fixed-test no-test, code-no f e z fixed-test-stop no-stop, i)))
+          body
 
-      reported : (code ≡ code-cnl → ⊥) → ReportSays kind closing (timeOfDay (line .valid .to)) t from to r → BodySays kind line closing t from to Reported r
-      reported no-cnl report = record {
-        says = λ o k l q. report .says o k q (ap (λ (x : FirstLine). timeOfDay (x .valid .to)) l)
-            (λ z. record {
-              no-test = code-no f e z fixed-test no-test;
-              no-long-test = code-no f e z fixed-test-stop no-stop;
-              no-cancellation = code-no f e z fixed-cnl no-cnl;
-            });
-      }
+      reported : (code ≡ code-cnl → ⊥) → ReportSays o t from r → Replies (atForm (areaIn o)) t from r
+      reported no-cnl report = report .says (λ z. record {
+        no-test = code-no f e z fixed-test no-test;
+        no-long-test = code-no f e z fixed-test-stop no-stop;
+        no-cancellation = code-no f e z fixed-cnl no-cnl;
+      })
 
 returns : tie.Need-returns
 returns c = search test

@@ -2,18 +2,19 @@
 use borrow.Author.Needs.{needs}
 use mathlib.Core.List.{List}
 use Prim.Native.Nat.{ℕ}
-use Rattle.message.specs.declared.Form.the-variants.{Test}
-use Rattle.message.specs.Reports.{noReport}
+use Rattle.grammar.specs.declared.Reply.{Reply}
+use Rattle.grammar.specs.Records.{testOf}
+use Rattle.grammar.specs.States.State.{atTest, atEnd}
+use Rattle.grammar.specs.States.{ToArea}
 use Rattle.reader_sections.specs.declared.steps.Step.{Step}
-use Rattle.reader_sections.specs.Bodies.{TestBodySays}
 use Rattle.reader_sections.specs.Forms.{TestSays}
-use Rattle.reader_sections.specs.Steps.{Closes}
-use Rattle.reader_sections.proofs.Leads.{at-last}
+use Rattle.reader_sections.specs.Steps.{Replies}
+use Rattle.reader_sections.proofs.Leads.{replies-on}
 use Rattle.reader_sections.proofs.body.test_body.Statement.{statement}
 use Rattle.reader_sections.proofs.body.test_body.Tie as tie
 
-ended : {t : List ℕ} {from a to : Step} {n : ℕ} → TestSays t from a n → Closes a to → TestBodySays t from to (Test n) noReport
-ended test end = record { says = λ o. at-last (test .says o) (end .says _ _ (test .stands)) }
+ended : {t : List ℕ} {from to : Step} {o : ToArea} {n : ℕ} {r : Reply} → TestSays t from to n → Replies (atEnd (testOf o n)) t to r → Replies (atTest o) t from r
+ended test end = replies-on (test .says _) end
 
 returns : tie.Need-returns
 returns c = search ended

@@ -19,7 +19,7 @@ use Rattle.reader_sections.proofs.ending.read_moving.Statement.{stateme
 use Rattle.reader_sections.proofs.ending.read_moving.Tie as tie
 
 moving : {t : List ℕ} {from a b to : Step} {d i : ℕ} {v : Speed} → Takes compassOf goodCompass 11 t from a d → Takes speedOf goodSpeed 11 t a b v
-    → Takes intensityOf goodIntensity 11 t b to i → MovingSays t from to (Moving d v i) noExtent
+    → Takes intensityOf goodIntensity 11 t b to i → MovingSays t from to (Moving d v i)
 unfolding step
 moving {d = d} {v = v} compass speed intensity = record {
   says = λ l. then (compass .says (atCompass l) (atSpeed l) (λ z. refl) refl)

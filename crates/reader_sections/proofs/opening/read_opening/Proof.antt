@@ -11,7 +11,7 @@ use Rattle.reader_sections.proofs.Leads.{then}
 use Rattle.reader_sections.proofs.opening.read_opening.Statement.{statement}
 use Rattle.reader_sections.proofs.opening.read_opening.Tie as tie
 
-opening : {t : List ℕ} {from a b to : Step} {h : Heading} {l : FirstLine} {r : Area} → HeadingSays t from a h → LineSays t a b l → AreaSays t b to r → OpeningSays t from to h l r
+opening : {t : List ℕ} {from a b to : Step} {h : Heading} {l : FirstLine} {r : Area} → HeadingSays t from a h → LineSays t a b l → AreaSays t b to r → OpeningSays t from to (record { heading = h; line = l; area = r })
 opening {h = h} {l = l} heading line area = record { says = then (heading .says) (then (line .says h) (area .says h l)); stands = area .stands }
 
 returns : tie.Need-returns

@@ -1,39 +1,47 @@
--- `read_report` meets its contract: its parts one after another, and the `=`.
+-- `read_report` meets its contract: its parts one after another, unless it is refused before its location.
 use borrow.Author.Needs.{needs}
 use mathlib.Core.List.{List}
-use mathlib.Core.Path.{refl}
+use mathlib.Core.Path.{_≡_, refl}
 use Prim.Native.Nat.{ℕ}
-use Rattle.groups.specs.declared.Time.{Time}
+use Rattle.words.specs.Words.{lengthAt}
 use Rattle.levels.specs.declared.Level.{Level}
-use Rattle.message.specs.declared.Ending.{Ending}
 use Rattle.message.specs.declared.Extent.{Extent}
 use Rattle.message.specs.declared.Observation.{Observation}
 use Rattle.message.specs.declared.Volcano.{Volcano}
+use Rattle.grammar.specs.declared.Reply.{Reply}
+use Rattle.grammar.specs.Bulletins.{refusal}
 use Rattle.grammar.specs.States.Placing.{atLocation}
 use Rattle.grammar.specs.States.Site.{inReport}
+use Rattle.grammar.specs.States.State.{atEnding}
+use Rattle.reader_sections.specs.declared.opening.Opening.{Opening}
 use Rattle.reader_sections.specs.declared.steps.Step.{Step}
-use Rattle.reader_sections.specs.Endings.{EndingSays}
+use Rattle.reader_sections.specs.Endings.{levelIn}
 use Rattle.reader_sections.specs.Locations.{LocatedInSays}
 use Rattle.reader_sections.specs.Reports.{PhenomenonSays, ObservationSays, LevelSays, ReportSays}
-use Rattle.reader_sections.specs.Steps.{Closes}
-use Rattle.reader_sections.proofs.Leads.{then, at-last}
+use Rattle.reader_sections.specs.Steps.{Replies}
+use Rattle.reader_sections.proofs.Leads.{then, replies-on, replies-refused}
 use Rattle.reader_sections.proofs.report.read_report.Statement.{statement}
 use Rattle.reader_sections.proofs.report.read_report.Tie as tie
 
-report : {t : List ℕ} {from a b c d e to : Step} {kind closing p : ℕ} {end : Time} {v : Volcano} {o : Observation} {x f : Extent} {l : Level} {g : Ending}
-    → PhenomenonSays kind t from a p v → ObservationSays t a b o → LocatedInSays closing atLocation 9 t b c x → LevelSays t c d l → EndingSays kind closing end t d e g f → Closes e to
-    → ReportSays kind closing end t from to (record { phenomenon = p; volcano = v; observation = o; extent = x; level = l; ending = g; forecast = f })
-report phenomenon observation location level ending equals = record {
-  says = λ o k a u r. at-last
-      (then (phenomenon .says o k r) (then (observation .says _) (then (location .says (inReport _) a refl) (then (level .says _) (ending .says _ k a u)))))
-      (equals .says _ _ (ending .stands));
-}
+module _ {t : List ℕ} {from a b : Step} {opening : Opening} {p : ℕ} {v : Volcano} {o : Observation} {r : Reply}
+    (phenomenon : PhenomenonSays (opening .heading .designator .kind) t from a p v) (observation : ObservationSays t a b o) where
+  early : (b .number ≡ 0 → ⊥) → r ≡ refusal (b .number) (b .place) (lengthAt t (b .place)) → ReportSays opening t from r
+  early z e = record { says = λ w. replies-refused (then (phenomenon .says _ refl w) (observation .says _)) z e }
+
+  report : {c d : Step} {x : Extent} {l : Level} → LocatedInSays (opening .area .closing) atLocation 9 t b c x → LevelSays t c d l
+      → Replies (atEnding (levelIn (record { opening = opening; phenomenon = p; volcano = v; observation = o; extent = x; level = l }))) t d r → ReportSays opening t from r
+  report location level ending = record {
+    says = λ w. replies-on (then (phenomenon .says _ refl w) (then (observation .says _) (then (location .says (inReport _) refl refl) (level .says _)))) ending;
+  }
 
 returns : tie.Need-returns
-returns c = search report
+returns c = search (early, needs)
+
+returns-2 : tie.Need-returns-2
+returns-2 c = search report
 
 pub read-report-spec : {M : Type 1} → statement M
 read-report-spec =
     tie.close
-    (tie.spec (λ c κs. search needs) (λ c κs. search needs) (λ c κs. search needs) (λ c κs. search needs)
-    (λ c κs. search needs) (λ c κs. search needs) returns)
+    (tie.spec (λ c κs. search needs) (λ c κs. search needs) (λ c κs. search needs) returns (λ c κs. search needs)
+    (λ c κs. search needs) (λ c κs. search needs) returns-2)
