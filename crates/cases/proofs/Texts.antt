@@ -78,14 +78,15 @@ pub meridian-text : Shown (located meridianOutline) (reporting "WI N10 E180 - N1
 unfolding opened
 meridian-text = record { isGood = refl; written = refl }
 
--- 02, CR 7: "Outlines may have 4 to 20 written points": closed at each of these, and not before
+-- 02, CR 7: "Outlines may have 4 to 20 written points": closed at each of these, …
 pub closed-at-each : allOf (λ (n : ℕ). goodOutline n (closedAt n)) (4 ∷ 5 ∷ 6 ∷ 7 ∷ 8 ∷ 9 ∷ 10 ∷ 11 ∷ 12 ∷ 13 ∷ 14 ∷ 15 ∷ 16 ∷ 17 ∷ 18 ∷ 19 ∷ 20 ∷ []) ≡ true
 unfolding opened
 closed-at-each = refl
 
-pub closed-too-early : allOf (λ (n : ℕ). not (goodOutline n (closedAt n))) (1 ∷ 2 ∷ 3 ∷ []) ≡ true
+-- … and at no point before or after
+pub closed-elsewhere : allOf (λ (n : ℕ). not (goodOutline n (closedAt n))) (1 ∷ 2 ∷ 3 ∷ 21 ∷ 22 ∷ []) ≡ true
 unfolding opened
-closed-too-early = refl
+closed-elsewhere = refl
 
 pub longest-text : Shown (located longestOutline) (lastPoint "N10 E010 SFC/FL100 MOV E 20KT WKN=")
 unfolding opened
