@@ -28,7 +28,7 @@ use Rattle.message.specs.Words.{headingWords, lineWords, areaWords, testTexts, 
 use Rattle.message.specs.declared.Record.{Record}
 use Rattle.grammar.specs.Writes.{writeOf}
 use Rattle.cases.specs.Samples.{reporting, eastOf, E180, laterSaying, located, cancelling}
-use Rattle.cases.specs.Cases.{saying, meridianOutline, climb, climbText, closedAt, longestOutline, lastPoint, testing, testingFifty, eruptionText, eruptionRecord, correctedText, correctedRecord}
+use Rattle.cases.specs.Cases.{saying, meridianOutline, climb, climbText, closedAt, longestOutline, longestTwice, foreseen, testing, testingFifty, eruptionText, eruptionRecord, correctedText, correctedRecord}
 
 -- the record is good, and that is its text
 pub record Shown (r : Record) (text : List ℕ) : Type 0 where
@@ -84,11 +84,11 @@ unfolding opened
 closed-at-each = refl
 
 -- … and at no point before or after
-pub closed-elsewhere : allOf (λ (n : ℕ). not (goodOutline n (closedAt n))) (1 ∷ 2 ∷ 3 ∷ 21 ∷ 22 ∷ []) ≡ true
+pub closed-elsewhere : allOf (λ (n : ℕ). not (goodOutline n (closedAt n))) (2 ∷ 3 ∷ 21 ∷ 22 ∷ []) ≡ true
 unfolding opened
 closed-elsewhere = refl
 
-pub longest-text : Shown (located longestOutline) (lastPoint "N10 E010 SFC/FL100 MOV E 20KT WKN=")
+pub longest-text : Shown (foreseen longestOutline) longestTwice
 unfolding opened
 longest-text = record { isGood = refl; written = refl }
 

@@ -4,7 +4,7 @@ use mathlib.Core.Bool.{Bool, false}
 use mathlib.Core.List.{List, [], _∷_, _++_}
 use Prim.Native.Nat.{ℕ, _+_}
 use Prim.Native.String.{String}
-use lib.Dec.{eqb, ltb, leb}
+use lib.Dec.{ltb, leb}
 use lib.ListN.{length, getD}
 use Rattle.lists.specs.Choice.{pick, both, either}
 use Rattle.lists.specs.Lists.{same}
@@ -59,7 +59,8 @@ roomAfter ps = ltb (length ps + 1) mostPoints
 abbrev pub enough : List Point → Bool
 enough ps = leb leastPoints (length ps + 1)
 
--- the last point that there is room for has to be equal to point 1, so its latitude has to be that of point 1
+-- 02, CR 7: "an outline not closed at point 20 is refused at the word that shows it": the last point that there is room for has to be equal to
+-- point 1, so its latitude has to be that of point 1
 abbrev pub mayFollow : List Point → Coordinate → Bool
 mayFollow ps c = either (roomAfter ps) (sameLatitude ps c)
 

@@ -5,9 +5,8 @@ use mathlib.Core.Logic.{⊎-elim}
 use mathlib.Core.Path.{_≡_, refl, ap, sym, _∙_}
 use Prim.Native.Nat.{ℕ}
 use lib.Dec.{eqb}
-use borrow.Author.Tests.{eq-eqb, ne-eqb, eqb-true, eqb-false, not-true}
-use Rattle.lists.specs.Choice.{both}
-use Rattle.lists.proofs.Choice.{by, clash, both-left, both-right, both-true}
+use borrow.Author.Tests.{eq-eqb, ne-eqb, eqb-true, eqb-false}
+use Rattle.lists.proofs.Choice.{by, clash}
 use Rattle.groups.specs.declared.Time.{Time}
 use Rattle.groups.specs.Groups.{timeOf}
 use Rattle.levels.specs.declared.Level.the-variants.{NoLevel, Flight, SurfaceFlight, SurfaceMetres, SurfaceFeet, Band, TopFlight, AboveFlight, TopAboveFlight}
@@ -82,10 +81,3 @@ level-good w v e = by (emptyLevel v) (λ y. rw y (sym (level-no v y))) (λ y. rw
 
 pub flight-good : (w : List ℕ) (n : ℕ) → n ≡ flightIn w → not (eqb n 0) ≡ flight n
 flight-good w n e = by (eqb n 0) (λ y. rw (eqb-true n 0 y)) (λ y. rw y (sym (flight-yes w n e (eqb-false n 0 y))))
-
--- the one number, and not the other
-pub both-these : (a b c d : ℕ) → both (eqb a b) (not (eqb c d)) ≡ true → (a ≡ b) × (c ≡ d → ⊥)
-both-these a b c d e = (eqb-true a b (both-left _ _ e), eqb-false c d (not-true _ (both-right (eqb a b) _ e)))
-
-pub not-both : (a b c d : ℕ) → both (eqb a b) (not (eqb c d)) ≡ false → (c ≡ d → ⊥) → a ≡ b → ⊥
-not-both a b c d e n p = clash _ (both-true (eq-eqb a b p) (ap not (ne-eqb c d n))) e

@@ -2,7 +2,7 @@
 use mathlib.Core.Bool.{Bool, true, false, not}
 use mathlib.Core.List.{List, [], _∷_}
 use mathlib.Core.Path.{_≡_, refl, ap, sym, _∙_}
-use Prim.Native.Nat.{ℕ, _-_, _≤_, _<_}
+use Prim.Native.Nat.{ℕ, _≤_, _<_}
 use native.Mathlib.Omega.{arith}
 use lib.Dec.{eqb}
 use lib.ListN.{length}
@@ -71,11 +71,11 @@ standing f = omega (arith, f .ordered, f .within)
 pub before-run : {t : List ℕ} {at : ℕ} {to : Step} (s : State) → Before t at to → runAt s t at ≡ runOn s t to
 before-run {t} {at} {to} s p = skip s t at ∙ (ap (runAt s t) (sym (p .placed)) ∙ sym (on-going s t to (p .going)))
 
--- the reply to a text, from the step before its first word on
+-- the reply to a text is that from the step before its first word on
 pub replied : {s : State} {t : List ℕ} {start : Step} {r : Reply} → Before t 0 start → Replies s t start r → r ≡ replyOf t (runAt s t 0)
 replied {s} {t} b h = h .says ∙ ap (replyOf t) (sym (before-run s b))
 
--- … where it is refused on the way, …
+-- the reply from a step on, where it is refused on the way, …
 pub replies-refused : {s next : State} {t : List ℕ} {from to : Step} {r : Reply} → Leads s t from to next → (to .number ≡ 0 → ⊥)
     → r ≡ refusal (to .number) (to .place) (lengthAt t (to .place)) → Replies s t from r
 replies-refused {next = next} {t} {to = to} g z e = record { says = e ∙ ap (replyOf t) (sym (g .says ∙ on-refused next t to z)) }
@@ -83,10 +83,10 @@ replies-refused {next = next} {t} {to = to} g z e = record { says = e ∙ ap (re
 -- … and at the `=`
 module _ {t : List ℕ} {from to : Step} (f : Stands t from) (c : Closes from to) {m : Record} {r : Reply} where
   pub ends-refused : (to .number ≡ 0 → ⊥) → r ≡ refusal (to .number) (to .place) (lengthAt t (to .place)) → Replies (atEnd m) t from r
-  ends-refused z e = record { says = e ∙ ap (replyOf t) (sym (c .says t m f .says ∙ pick-false _ _ (ne-eqb (to .number) 0 z))) }
+  ends-refused z e = record { says = e ∙ ap (replyOf t) (sym (c .says t m f ∙ pick-false _ _ (ne-eqb (to .number) 0 z))) }
 
   pub ends-accepted : to .number ≡ 0 → r ≡ acceptance m → Replies (atEnd m) t from r
-  ends-accepted z e = record { says = e ∙ ap (replyOf t) (sym (c .says t m f .says ∙ pick-true _ _ (eq-eqb (to .number) 0 z))) }
+  ends-accepted z e = record { says = e ∙ ap (replyOf t) (sym (c .says t m f ∙ pick-true _ _ (eq-eqb (to .number) 0 z))) }
 
 -- past the word at a step
 pub past-leads : {s next : State} {t : List ℕ} {from to : Step} → Stands t from → from .number ≡ 0 → Goes s t (from .place) 0 (from .end) next → Before t (from .end) to
@@ -221,11 +221,11 @@ module _ {t : List ℕ} {from : Step} {c : ℕ} (f : Stands t from) (e : c ≡ c
 
 -- the `=`
 pub closes-stays : {from : Step} → (from .number ≡ 0 → ⊥) → Closes from from
-closes-stays {from} e = record { says = λ t r f. record { says = on-refused (atEnd r) t from e ∙ sym (pick-false _ _ (ne-eqb (from .number) 0 e)) } }
+closes-stays {from} e = record { says = λ t r f. on-refused (atEnd r) t from e ∙ sym (pick-false _ _ (ne-eqb (from .number) 0 e)) }
 
 pub closes-going : {from to : Step} → from .number ≡ 0 → ((t : List ℕ) (r : Record) → Stands t from → runAt (atEnd r) t (from .place) ≡ concluded (to .number) (to .place) r)
     → Closes from to
-closes-going {from} z e = record { says = λ t r f. record { says = on-going (atEnd r) t from z ∙ e t r f } }
+closes-going {from} z e = record { says = λ t r f. on-going (atEnd r) t from z ∙ e t r f }
 
 -- neither the empty word nor the `=` is one of more bytes
 only-long : (k : List ℕ) → 1 < length k → OnlyWords (λ (w : List ℕ). same w k)

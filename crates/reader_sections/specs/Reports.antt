@@ -1,4 +1,4 @@
--- The report, as equations of runs.
+-- The report, as equations of runs and of replies.
 -- Internal contract.
 use mathlib.Core.Bool.{false}
 use mathlib.Core.List.{List}

@@ -1,6 +1,6 @@
 -- A section leads from one step to another. A step is a number, a place and an end: number 0 says that the run of the grammar's machine goes on from that
--- place, any other number that the word at that place was refused. A section's contract is then an equation of runs at two steps, and a step once
--- refused stays refused.
+-- place, any other number that the word at that place was refused. A section's contract is then an equation of runs at two steps, or
+-- of a reply with the run at one; and a step once refused stays refused.
 -- Internal contract.
 use mathlib.Core.Bool.{Bool, true, false}
 use mathlib.Core.List.{List}
@@ -47,11 +47,7 @@ wordOn t p = part (p .place) (p .end) t
 pub record Leads (s : State) (t : List ℕ) (from to : Step) (next : State) : Type 0 where
   pub says : runOn s t from ≡ runOn next t to
 
--- … to the end of the message
-pub record Finishes (s : State) (t : List ℕ) (from to : Step) (r : Record) : Type 0 where
-  pub says : runOn s t from ≡ concluded (to .number) (to .place) r
-
--- … to the reply to the text
+-- from a step to the reply to the text
 pub record Replies (s : State) (t : List ℕ) (from : Step) (r : Reply) : Type 0 where
   pub says : r ≡ replyOf t (runOn s t from)
 
@@ -107,4 +103,4 @@ pub record MayTake (code : ℕ) (t : List ℕ) (from : Step) (found : Bool) (to 
 
 -- the `=`
 pub record Closes (from to : Step) : Type 0 where
-  pub says : (t : List ℕ) (r : Record) → Stands t from → Finishes (atEnd r) t from to r
+  pub says : (t : List ℕ) (r : Record) → Stands t from → runOn (atEnd r) t from ≡ concluded (to .number) (to .place) r

@@ -1,16 +1,18 @@
 // Ending: MOV, a compass point and a speed, or STNR, then the intensity; or, in WS only, the intensity and a forecast. Then the `=`.
 ghost use mathlib.Core.Path.{_≡_};
+ghost use Rattle.figures.specs.Codes.{codeOf};
 ghost use Rattle.groups.specs.Groups.{timeOf};
-ghost use Rattle.message.specs.Locations.{noExtent};
 ghost use Rattle.grammar.specs.Bulletins.{acceptance};
 ghost use Rattle.grammar.specs.Records.{reportOf};
-ghost use Rattle.grammar.specs.States.State.{atEnding, atEnd};
-ghost use Rattle.reader_sections.specs.Endings.{levelIn, MovingSays, forecastTime, ForecastSays};
-ghost use Rattle.reader_sections.specs.Steps.{Stands, Takes, Replies};
+ghost use Rattle.grammar.specs.States.State.{atEnding};
+ghost use Rattle.reader_sections.specs.Endings.{levelIn, MovingSays, MovementSays, forecastTime, ForecastWordsSays, ForecastSays};
+ghost use Rattle.reader_sections.specs.Steps.{wordOn, Stands, Takes, Replies};
 use crate::location::read_location;
 use crate::opening::Opening;
 use crate::parts;
+use crate::replies::accepted;
 use crate::replies::refused_at;
+use crate::required_words::IntensityRead;
 use crate::required_words::TimeRead;
 use crate::required_words::compass_at;
 use crate::required_words::intensity_at;
@@ -33,7 +35,6 @@ use message::Extent;
 use message::Form;
 use message::NO_EXTENT;
 use message::Observation;
-use message::Record;
 use message::Report;
 use message::Volcano;
 
@@ -57,45 +58,20 @@ fn reported(known: UpToLevel, ending: Ending, forecast: Extent) -> Reply
     ensures { λ r. ⌜ r ≡ acceptance (reportOf (levelIn known) ending forecast) ⌝ }
 {
     let opening = known.opening;
-    let heading = opening.heading;
-    let line = opening.line;
-    let area = opening.area;
     let volcano = known.volcano;
     let observation = known.observation;
     let extent = known.extent;
     let level = known.level;
-    Reply {
-        number: 0,
-        place: 0,
-        length: 0,
-        message: Record {
-            heading,
-            line,
-            area,
-            form: Form::Reported,
-            report: Report {
-                phenomenon: known.phenomenon,
-                volcano,
-                observation,
-                extent,
-                level,
-                ending,
-                forecast,
-            },
-        },
-    }
-}
-
-// The `=` after an ending that has no forecast.
-fn without_forecast(text: &[u8], from: Step, known: UpToLevel, ending: Ending) -> Reply
-    requires { ⌜ Stands (now text) from ⌝ }
-    ensures { λ r. ⌜ Replies (atEnd (reportOf (levelIn known) ending noExtent)) (now (text .entry)) from r ⌝ }
-{
-    let end = concluding(from);
-    if end.number != 0 {
-        return refused_at(text, end);
-    }
-    reported(known, ending, NO_EXTENT)
+    let report = Report {
+        phenomenon: known.phenomenon,
+        volcano,
+        observation,
+        extent,
+        level,
+        ending,
+        forecast,
+    };
+    accepted(opening, Form::Reported, report)
 }
 
 // What follows MOV.
@@ -114,6 +90,23 @@ fn read_moving(text: &[u8], from: Step) -> MovementRead
     }
 }
 
+// MOV and what follows it, or STNR and the intensity: the word of that code is judged as STNR where it is not MOV.
+fn read_movement(text: &[u8], from: Step, code: u64) -> MovementRead
+    requires { ⌜ (Stands (now text) from) × (code ≡ codeOf (wordOn (now text) from)) ⌝ }
+    ensures { λ r. ⌜ MovementSays code (now (text .entry)) from (r .step) (r .ending) ⌝ }
+{
+    if code == vocabulary::MOV {
+        return read_moving(text, step_at(text, from.end));
+    }
+    let still = judged(text, from, code == vocabulary::STNR, parts::ENDING);
+    let change = intensity_at(text, still, parts::ENDING);
+    let step = change.step;
+    MovementRead {
+        step,
+        ending: Ending::Stationary(change.intensity),
+    }
+}
+
 // The time of a forecast is that of the end of VALID.
 fn forecast_time_at(text: &[u8], from: Step, until: Time) -> TimeRead
     requires { ⌜ Stands (now text) from ⌝ }
@@ -127,7 +120,23 @@ fn forecast_time_at(text: &[u8], from: Step, until: Time) -> TimeRead
     TimeRead { step, time }
 }
 
-// The forecast of a WS: the intensity, FCST AT, the time and a location. What is refused before that is answered at once.
+// The forecast of a WS up to its location: the intensity, FCST AT and the time.
+fn forecast_words_at(text: &[u8], from: Step, until: Time) -> IntensityRead
+    requires { ⌜ Stands (now text) from ⌝ }
+    ensures { λ r. ⌜ ForecastWordsSays until (now (text .entry)) from (r .step) (r .intensity) ⌝ }
+{
+    let change = intensity_at(text, from, parts::ENDING);
+    let fcst = fixed_at(text, change.step, vocabulary::FCST, parts::ENDING);
+    let at = fixed_at(text, fcst, vocabulary::AT, parts::ENDING);
+    let timed = forecast_time_at(text, at, until);
+    let step = timed.step;
+    IntensityRead {
+        step,
+        intensity: change.intensity,
+    }
+}
+
+// The forecast and the `=`. What is refused before its location is answered at once, as in a report.
 fn read_forecast(text: &[u8], from: Step, known: UpToLevel) -> Reply
     requires { ⌜ Stands (now text) from ⌝ }
     ensures { λ r. ⌜ ForecastSays known (now (text .entry)) from r ⌝ }
@@ -141,11 +150,8 @@ fn read_forecast(text: &[u8], from: Step, known: UpToLevel) -> Reply
         hour: to.hour,
         minute: to.minute,
     };
-    let change = intensity_at(text, from, parts::ENDING);
-    let fcst = fixed_at(text, change.step, vocabulary::FCST, parts::ENDING);
-    let at = fixed_at(text, fcst, vocabulary::AT, parts::ENDING);
-    let timed = forecast_time_at(text, at, until);
-    let reached = timed.step;
+    let change = forecast_words_at(text, from, until);
+    let reached = change.step;
     if reached.number != 0 {
         return refused_at(text, reached);
     }
@@ -166,20 +172,15 @@ pub(crate) fn read_ending(text: &[u8], from: Step, known: UpToLevel) -> Reply
     let heading = opening.heading;
     let designator = heading.designator;
     let code = code_of(text, from);
-    if code == vocabulary::MOV {
-        let moved = read_moving(text, step_at(text, from.end));
-        let ending = moved.ending;
-        return without_forecast(text, moved.step, known, ending);
-    }
-    if both(designator.kind == KIND_WS, code != vocabulary::STNR) {
+    let other = both(code != vocabulary::MOV, code != vocabulary::STNR);
+    if both(designator.kind == KIND_WS, other) {
         return read_forecast(text, from, known);
     }
-    let still = judged(text, from, code == vocabulary::STNR, parts::ENDING);
-    let change = intensity_at(text, still, parts::ENDING);
-    without_forecast(
-        text,
-        change.step,
-        known,
-        Ending::Stationary(change.intensity),
-    )
+    let moved = read_movement(text, from, code);
+    let end = concluding(moved.step);
+    if end.number != 0 {
+        return refused_at(text, end);
+    }
+    let ending = moved.ending;
+    reported(known, ending, NO_EXTENT)
 }

@@ -118,7 +118,7 @@ fn next_point(text: &[u8], from: Step, first: Point, count: usize, refusal: u8) 
     }
 }
 
-// The points after WI. A refused point ends the loop, for nothing is read behind it; no other array is made for what is thrown away.
+// The points after WI. A refused point ends the loop, for nothing is read behind it, and the array is handed back as it is.
 pub(crate) fn read_outline(text: &[u8], from: Step, refusal: u8) -> LocationRead
     requires { ⌜ (Stands (now text) from) × (0 < refusal) ⌝ }
     ensures { λ r. ⌜ LocatedSays (atLatitude []) refusal (now (text .entry)) from (r .step) (r .extent) ⌝ }

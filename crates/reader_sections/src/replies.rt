@@ -1,8 +1,8 @@
-// How a reading ends. Each reply is made where it is known, so that nothing is made for a record which is refused.
+// How a reading ends. Each reply is made where it is known: no empty report is made for a message that is refused.
 ghost use mathlib.Core.Path.{_≡_};
 ghost use Rattle.words.specs.Words.{lengthAt};
 ghost use Rattle.message.specs.Reports.{noReport};
-ghost use Rattle.grammar.specs.Bulletins.{refusal as refusalOf};
+ghost use Rattle.grammar.specs.Bulletins.{acceptance, refusal as refusalOf};
 ghost use Rattle.grammar.specs.Records.{formed};
 ghost use Rattle.grammar.specs.States.State.{atEnd};
 ghost use Rattle.reader_sections.specs.Openings.{areaIn};
@@ -15,6 +15,7 @@ use grammar::refusal;
 use message::Form;
 use message::NO_REPORT;
 use message::Record;
+use message::Report;
 use words::length_at;
 
 // The word at a refused step is looked up again for its length.
@@ -24,15 +25,10 @@ pub(crate) fn refused_at(text: &[u8], at: Step) -> Reply
     refusal(at.number, at.place, length_at(text, at.place))
 }
 
-// The `=` after a test or a cancellation, which has no report.
-pub(crate) fn unreported(text: &[u8], from: Step, opening: Opening, form: Form) -> Reply
-    requires { ⌜ Stands (now text) from ⌝ }
-    ensures { λ r. ⌜ Replies (atEnd (formed (areaIn opening) form noReport)) (now (text .entry)) from r ⌝ }
+// The reply to a whole message.
+pub(crate) fn accepted(opening: Opening, form: Form, report: Report) -> Reply
+    ensures { λ r. ⌜ r ≡ acceptance (formed (areaIn opening) form report) ⌝ }
 {
-    let end = concluding(from);
-    if end.number != 0 {
-        return refused_at(text, end);
-    }
     let heading = opening.heading;
     let line = opening.line;
     let area = opening.area;
@@ -45,7 +41,19 @@ pub(crate) fn unreported(text: &[u8], from: Step, opening: Opening, form: Form) 
             line,
             area,
             form,
-            report: NO_REPORT,
+            report,
         },
     }
+}
+
+// The `=` after a test or a cancellation, which has no report.
+pub(crate) fn unreported(text: &[u8], from: Step, opening: Opening, form: Form) -> Reply
+    requires { ⌜ Stands (now text) from ⌝ }
+    ensures { λ r. ⌜ Replies (atEnd (formed (areaIn opening) form noReport)) (now (text .entry)) from r ⌝ }
+{
+    let end = concluding(from);
+    if end.number != 0 {
+        return refused_at(text, end);
+    }
+    accepted(opening, form, NO_REPORT)
 }

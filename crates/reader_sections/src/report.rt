@@ -34,7 +34,7 @@ fn read_phenomenon(text: &[u8], from: Step, kind: u8) -> PhenomenonRead
     read_ash(text, from)
 }
 
-// What is refused before the location is answered at once: no outline is made for it.
+// What is refused before the location is answered at once: no outline is made for it. So is what is refused before the ending.
 pub(crate) fn read_report(text: &[u8], from: Step, opening: Opening) -> Reply
     requires { ⌜ Stands (now text) from ⌝ }
     ensures { λ r. ⌜ ReportSays opening (now (text .entry)) from r ⌝ }
@@ -50,6 +50,10 @@ pub(crate) fn read_report(text: &[u8], from: Step, opening: Opening) -> Reply
     }
     let located = read_location(text, reached, area.closing, parts::LOCATION);
     let levelled = read_level(text, located.step);
+    let high = levelled.step;
+    if high.number != 0 {
+        return refused_at(text, high);
+    }
     let volcano = what.volcano;
     let observation = seen.observation;
     let extent = located.extent;
@@ -62,5 +66,5 @@ pub(crate) fn read_report(text: &[u8], from: Step, opening: Opening) -> Reply
         extent,
         level,
     };
-    read_ending(text, levelled.step, known)
+    read_ending(text, high, known)
 }

@@ -29,7 +29,7 @@ use Rattle.message.specs.declared.Name.{Name}
 use Rattle.message.specs.declared.Record.{Record}
 use Rattle.message.specs.declared.Report.{Report}
 use Rattle.message.specs.declared.Volcano.{Volcano}
-use Rattle.message.specs.Limits.{mountainLimit, cta}
+use Rattle.message.specs.Limits.{mountainLimit}
 use Rattle.message.specs.Locations.{joined, extentWords}
 use Rattle.message.specs.Names.{goodName, emptyName}
 use Rattle.message.specs.Records.{good}

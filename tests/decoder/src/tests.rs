@@ -180,7 +180,7 @@ fn outlines_close_at_20_points_at_the_latest() {
     assert_eq!(verdict(located(&outline(19, "N01 E180"))), (9, 95 + 11 * 19 + 1, 9));
 }
 
-/// More than a third of the random bulletins have a long outline and more than a third none; with every number of points, and every end.
+/// More than a third of the random bulletins have a long outline and more than a third no long one; with every number of points, and every end.
 #[test]
 fn random_outlines_have_all() {
     assert_eq!(outlines(b"FCST AT 0000Z\nWI N00 E180 - N01\r\nE001 - FL100 NC FCST AT 0400Z WI N00 E000="), (2, 1));

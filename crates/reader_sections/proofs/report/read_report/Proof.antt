@@ -28,20 +28,31 @@ module _ {t : List ℕ} {from a b : Step} {opening : Opening} {p : ℕ} {v : Vol
   early : (b .number ≡ 0 → ⊥) → r ≡ refusal (b .number) (b .place) (lengthAt t (b .place)) → ReportSays opening t from r
   early z e = record { says = λ w. replies-refused (then (phenomenon .says _ refl w) (observation .says _)) z e }
 
-  report : {c d : Step} {x : Extent} {l : Level} → LocatedInSays (opening .area .closing) atLocation 9 t b c x → LevelSays t c d l
-      → Replies (atEnding (levelIn (record { opening = opening; phenomenon = p; volcano = v; observation = o; extent = x; level = l }))) t d r → ReportSays opening t from r
-  report location level ending = record {
-    says = λ w. replies-on (then (phenomenon .says _ refl w) (then (observation .says _) (then (location .says (inReport _) refl refl) (level .says _)))) ending;
-  }
+  module _ {c d : Step} {x : Extent} {l : Level} (location : LocatedInSays (opening .area .closing) atLocation 9 t b c x) (level : LevelSays t c d l) where
+    late : (d .number ≡ 0 → ⊥) → r ≡ refusal (d .number) (d .place) (lengthAt t (d .place)) → ReportSays opening t from r
+    late z e = record {
+      says = λ w. replies-refused (then (phenomenon .says _ refl w) (then (observation .says _) (then (location .says (inReport _) refl refl) (level .says _)))) z e;
+    }
+
+    report : Replies (atEnding (levelIn (record { opening = opening; phenomenon = p; volcano = v; observation = o; extent = x; level = l }))) t d r → ReportSays opening t from r
+    report ending = record {
+      says = λ w. replies-on (then (phenomenon .says _ refl w) (then (observation .says _) (then (location .says (inReport _) refl refl) (level .says _)))) ending;
+    }
 
 returns : tie.Need-returns
 returns c = search (early, needs)
 
 returns-2 : tie.Need-returns-2
-returns-2 c = search report
+returns-2 c = search (late, needs)
+
+returns-3 : tie.Need-returns-3
+returns-3 c =
+    let levelled = c .before .before .before .before .before .before .before in
+    let seen = levelled .before .before .before .before .before in
+    report (seen .before .read-phenomenon .ensures) (seen .read-observation .ensures) (levelled .before .read-location .ensures) (levelled .read-level .ensures) (c .read-ending .ensures)
 
 pub read-report-spec : {M : Type 1} → statement M
 read-report-spec =
     tie.close
     (tie.spec (λ c κs. search needs) (λ c κs. search needs) (λ c κs. search needs) returns (λ c κs. search needs)
-    (λ c κs. search needs) (λ c κs. search needs) returns-2)
+    (λ c κs. search needs) (λ c κs. search needs) returns-2 (λ c κs. search needs) returns-3)
