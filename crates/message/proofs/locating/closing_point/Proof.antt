@@ -18,32 +18,14 @@ Inv-loop points first i₀ i = (length points ≡ mostPoints) × (i ≤ mostPoin
 abbrev μ-loop : tie.MeasureT-loop
 μ-loop points first i₀ i = mostPoints - i
 
-array-copy-out-first : tie.Need-array-copy-out-first Inv-loop μ-loop
-array-copy-out-first c = search needs
-
 loop-holds : tie.Need-loop-holds Inv-loop μ-loop
 loop-holds c = (search needs, omega arith, refl)
-
-mul-same-point : tie.Need-mul-same-point Inv-loop μ-loop
-mul-same-point c = omega arith
-
-array-copy-out-same-point : tie.Need-array-copy-out-same-point Inv-loop μ-loop
-array-copy-out-same-point c = omega arith
-
-same-point-requires : tie.Need-same-point-requires Inv-loop μ-loop
-same-point-requires c κs = search needs
 
 returns : tie.Need-returns Inv-loop μ-loop
 returns c =
     sym
     (c .before .before .before .before .loop .inv .2
     ∙ from-here (samePoint (getD (c .before .before .before .before .before .before .args .t1) 0 noPoint)) (c .before .before .before .before .before .before .args .t1) (c .before .before .before .before .loop .i) noPoint (omega arith) (sym (c .before .same-point .ensures) ∙ c .if1 .taken))
-
-add-i : tie.Need-add-i Inv-loop μ-loop
-add-i c = omega arith
-
-loop-less : tie.Need-loop-less Inv-loop μ-loop
-loop-less c = omega arith
 
 loop-again : tie.Need-loop-again Inv-loop μ-loop
 loop-again c = (
@@ -59,16 +41,5 @@ returns-2 c = sym (c .before .loop .inv .2 ∙ from-none (samePoint (getD (c .be
 pub closing-point-spec : {M : Type 1} → statement M
 closing-point-spec =
     tie.close
-    (tie.spec
-    Inv-loop
-    μ-loop
-    array-copy-out-first
-    loop-holds
-    mul-same-point
-    array-copy-out-same-point
-    same-point-requires
-    returns
-    add-i
-    loop-less
-    loop-again
-    returns-2)
+    (tie.spec Inv-loop μ-loop (search needs) loop-holds (λ c. omega arith) (λ c. omega arith)
+    (λ c κs. search needs) returns (λ c. omega arith) (λ c. omega arith) loop-again returns-2)

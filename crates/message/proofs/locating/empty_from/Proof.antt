@@ -21,23 +21,8 @@ abbrev μ-loop : tie.MeasureT-loop
 loop-holds : tie.Need-loop-holds Inv-loop μ-loop
 loop-holds c = (search needs, refl)
 
-mul-empty-point : tie.Need-mul-empty-point Inv-loop μ-loop
-mul-empty-point c = omega arith
-
-array-copy-out-empty-point : tie.Need-array-copy-out-empty-point Inv-loop μ-loop
-array-copy-out-empty-point c = omega arith
-
-empty-point-requires : tie.Need-empty-point-requires Inv-loop μ-loop
-empty-point-requires c κs = search needs
-
 returns : tie.Need-returns Inv-loop μ-loop
 returns c = sym (c .before .before .before .before .loop .inv .1 ∙ all-stop emptyPoint (c .before .before .before .before .before .args .t1) (c .before .before .before .before .loop .i) noPoint (omega arith) (sym (c .before .empty-point .ensures) ∙ not-true _ (c .if1 .taken)))
-
-add-i : tie.Need-add-i Inv-loop μ-loop
-add-i c = omega arith
-
-loop-less : tie.Need-loop-less Inv-loop μ-loop
-loop-less c = omega arith
 
 loop-again : tie.Need-loop-again Inv-loop μ-loop
 loop-again c = (search needs, c .before .before .before .before .loop .inv .1 ∙ all-past emptyPoint (c .before .before .before .before .before .args .t1) (c .before .before .before .before .loop .i) noPoint (omega arith) (sym (c .before .empty-point .ensures) ∙ not-false _ (c .if1 .left)))
@@ -48,15 +33,5 @@ returns-2 c = sym (c .before .loop .inv .1 ∙ all-end emptyPoint (c .before .be
 pub empty-from-spec : {M : Type 1} → statement M
 empty-from-spec =
     tie.close
-    (tie.spec
-    Inv-loop
-    μ-loop
-    loop-holds
-    mul-empty-point
-    array-copy-out-empty-point
-    empty-point-requires
-    returns
-    add-i
-    loop-less
-    loop-again
-    returns-2)
+    (tie.spec Inv-loop μ-loop loop-holds (λ c. omega arith) (λ c. omega arith) (λ c κs. search needs) returns
+    (λ c. omega arith) (λ c. omega arith) loop-again returns-2)

@@ -16,24 +16,6 @@ returns-2 : tie.Need-returns-2
 unfolding goodOutline
 returns-2 c = rw (le-leb leastPoints (c .before .before .args .n) (c .before .if1 .left), lt-leb (c .before .before .args .n) mostPoints (c .if2 .taken))
 
-good-until-requires : tie.Need-good-until-requires
-good-until-requires c κs = search needs
-
-closing-point-requires : tie.Need-closing-point-requires
-closing-point-requires c κs = search needs
-
-sub-closed : tie.Need-sub-closed
-sub-closed c = search needs
-
-empty-from-requires : tie.Need-empty-from-requires
-empty-from-requires c κs = search needs
-
-both-requires : tie.Need-both-requires
-both-requires c κs = search needs
-
-both-requires-2 : tie.Need-both-requires-2
-both-requires-2 c κs = search needs
-
 returns-3 : tie.Need-returns-3
 unfolding goodOutline
 returns-3 c =
@@ -53,13 +35,5 @@ returns-3 c =
 pub good-outline-spec : {M : Type 1} → statement M
 good-outline-spec =
     tie.close
-    (tie.spec
-    returns
-    returns-2
-    good-until-requires
-    closing-point-requires
-    sub-closed
-    empty-from-requires
-    both-requires
-    both-requires-2
-    returns-3)
+    (tie.spec returns returns-2 (λ c κs. search needs) (λ c κs. search needs) (search needs)
+    (λ c κs. search needs) (λ c κs. search needs) (λ c κs. search needs) returns-3)

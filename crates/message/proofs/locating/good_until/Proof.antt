@@ -28,25 +28,10 @@ abbrev μ-loop : tie.MeasureT-loop
 loop-holds : tie.Need-loop-holds Inv-loop μ-loop
 loop-holds c = (search needs, omega arith, refl)
 
-mul-good-point : tie.Need-mul-good-point Inv-loop μ-loop
-mul-good-point c = omega arith
-
-array-copy-out-good-point : tie.Need-array-copy-out-good-point Inv-loop μ-loop
-array-copy-out-good-point c = omega arith
-
-good-point-requires : tie.Need-good-point-requires Inv-loop μ-loop
-good-point-requires c κs = search needs
-
 returns : tie.Need-returns Inv-loop μ-loop
 returns c =
     let at = seen (c .before .before .before .before .before .args .n) (c .before .before .before .before .before .args .t1) (c .before .before .before .before .loop .i) (omega arith) (omega arith) in
     sym (c .before .before .before .before .loop .inv .2 ∙ all-stop goodPoint (take (c .before .before .before .before .before .args .n) (c .before .before .before .before .before .args .t1)) (c .before .before .before .before .loop .i) noPoint (at .0) (rw (at .1) (sym (c .before .good-point .ensures) ∙ not-true _ (c .if1 .taken))))
-
-add-i : tie.Need-add-i Inv-loop μ-loop
-add-i c = omega arith
-
-loop-less : tie.Need-loop-less Inv-loop μ-loop
-loop-less c = omega arith
 
 loop-again : tie.Need-loop-again Inv-loop μ-loop
 loop-again c =
@@ -64,15 +49,5 @@ returns-2 c =
 pub good-until-spec : {M : Type 1} → statement M
 good-until-spec =
     tie.close
-    (tie.spec
-    Inv-loop
-    μ-loop
-    loop-holds
-    mul-good-point
-    array-copy-out-good-point
-    good-point-requires
-    returns
-    add-i
-    loop-less
-    loop-again
-    returns-2)
+    (tie.spec Inv-loop μ-loop loop-holds (λ c. omega arith) (λ c. omega arith) (λ c κs. search needs) returns
+    (λ c. omega arith) (λ c. omega arith) loop-again returns-2)

@@ -7,12 +7,9 @@ use Rattle.message.specs.Locations.{noPoints}
 use Rattle.message.proofs.locating.no_points.Statement.{statement}
 use Rattle.message.proofs.locating.no_points.Tie as tie
 
-empty-from-requires : tie.Need-empty-from-requires
-empty-from-requires c κs = search needs
-
 returns : tie.Need-returns
 unfolding noPoints
 returns c = let long : length (c .before .args .points) ≡ mostPoints = search needs in rw (c .empty-from .ensures, long)
 
 pub no-points-spec : {M : Type 1} → statement M
-no-points-spec = tie.close (tie.spec empty-from-requires returns)
+no-points-spec = tie.close (tie.spec (λ c κs. search needs) returns)
