@@ -1,4 +1,4 @@
-// How a reading ends. Each reply is made where it is known: no empty report is made for a message that is refused.
+// How a reading ends. Each reply is made where it is known: beside the empty record of a refusal, no empty report is made for what is refused.
 ghost use mathlib.Core.Path.{_≡_};
 ghost use Rattle.words.specs.Words.{lengthAt};
 ghost use Rattle.message.specs.Reports.{noReport};
@@ -46,7 +46,7 @@ pub(crate) fn accepted(opening: Opening, form: Form, report: Report) -> Reply
     }
 }
 
-// The `=` after a test or a cancellation, which has no report.
+// The reply at the `=` after a test or a cancellation, which has no report, or to what comes in its place.
 pub(crate) fn unreported(text: &[u8], from: Step, opening: Opening, form: Form) -> Reply
     requires { ⌜ Stands (now text) from ⌝ }
     ensures { λ r. ⌜ Replies (atEnd (formed (areaIn opening) form noReport)) (now (text .entry)) from r ⌝ }

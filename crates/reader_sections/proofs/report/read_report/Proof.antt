@@ -1,4 +1,4 @@
--- `read_report` meets its contract: its parts one after another, unless it is refused before its location.
+-- `read_report` meets its contract: its parts one after another, unless it is refused before its location or its ending.
 use borrow.Author.Needs.{needs}
 use mathlib.Core.List.{List}
 use mathlib.Core.Path.{_≡_, refl}
