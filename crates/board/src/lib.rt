@@ -1,4 +1,5 @@
 // The board: 64 places of messages that have not ended, by value.
+#![tactic(auto)]
 ghost use Rattle.std.specs.Prelude.{◌≡◌};
 ghost use Rattle.board.specs.Boards.{good_board, empty_board, refusal_at};
 ghost use Rattle.board.specs.Posts.{settled, post_of};
@@ -13,21 +14,21 @@ use places::{Place, claim_of, no_place};
 use settling::{drop_ended, spot_of};
 
 // The clock is that of the last accepted post, 0 before the first.
-#[derive(Drop)]
+#[derive(Clone, Copy)]
 pub struct Board {
     pub clock: u32,
     pub places: [Place; Board::PLACES],
 }
 
 // The refusal number, 0 for an accepted post, and the board as it is afterwards.
-#[derive(Drop)]
+#[derive(Clone, Copy)]
 pub struct Posted {
     pub answer: u8,
     pub board: Board,
 }
 
 // Where a place goes: a refusal number, or 0 and the place's number.
-#[derive(Drop)]
+#[derive(Clone, Copy)]
 struct Spot {
     answer: u8,
     at: usize,

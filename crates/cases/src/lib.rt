@@ -1,1 +1,2 @@
 // No code: the cases are theorems about the definitions of crate grammar.
+#![tactic(auto)]

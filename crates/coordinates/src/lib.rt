@@ -1,4 +1,5 @@
 // Latitudes, longitudes and points: read from a word, judged, and valued in signed minutes.
+#![tactic(auto)]
 ghost use Rattle.std.specs.Prelude.{◌≡◌};
 ghost use Rattle.coordinates.specs.Coordinates.{north_south, east_west, coordinate_of, good_coordinate, empty_coordinate, signed_of};
 ghost use Rattle.coordinates.specs.Points.{apart, same_value, same_point, good_point, empty_point};
@@ -8,7 +9,7 @@ use lists::{both, either};
 mod axis;
 
 // Letter and digits as written: how many digits, and the degrees and minutes that they count.
-#[derive(Drop)]
+#[derive(Clone, Copy)]
 pub struct Coordinate {
     pub letter: u8,
     pub digits: u8,
@@ -23,7 +24,7 @@ pub const NO_COORDINATE: Coordinate = Coordinate {
     minutes: 0,
 };
 
-#[derive(Drop)]
+#[derive(Clone, Copy)]
 pub struct Point {
     pub latitude: Coordinate,
     pub longitude: Coordinate,

@@ -7,7 +7,7 @@ use grammar::Reply;
 use reader::read;
 
 // How many texts got the expected reply, and how many another.
-#[derive(Drop)]
+#[derive(Clone, Copy)]
 pub(crate) struct Tally {
     pub(crate) right: u64,
     pub(crate) wrong: u64,

@@ -1,6 +1,7 @@
 // Runs the example texts through the reader, and the records read through the writer, and compares each reply and each canonical text with the
 // expected one. They stand in the file `stdin`, a line each, and not in the source: a byte of a literal costs the checker a millisecond, and
 // every call more.
+#![tactic(auto)]
 
 mod judging;
 mod lines;

@@ -1,4 +1,6 @@
 // One word's letters and figures: the leaves that every kind of word is read by.
+#![tactic(auto)]
+
 ghost use Rattle.std.specs.Prelude.{◌≡◌, eqb};
 ghost use Rattle.lists.specs.Lists.{index_of};
 ghost use Rattle.figures.specs.Figures.{figures_of, two_of, three_of};

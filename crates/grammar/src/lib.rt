@@ -1,11 +1,12 @@
 // The reply of the reader, and a refusal. The grammar itself is a definition, in specs/: no code runs it.
+#![tactic(auto)]
 ghost use Rattle.std.specs.Prelude.{◌≡◌};
 ghost use Rattle.grammar.specs.Bulletins.{refusal as refusal_of};
 
 use message::{NO_RECORD, Record};
 
 // The refusal number, the place and the length of what is refused there, each 0 for none; and the record, all zero where refused.
-#[derive(Drop)]
+#[derive(Clone, Copy)]
 pub struct Reply {
     pub number: u8,
     pub place: usize,

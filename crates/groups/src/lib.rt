@@ -1,11 +1,12 @@
 // Day, hour and minute: the six-digit group, `group/group` and `GGggZ`.
+#![tactic(auto)]
 ghost use Rattle.std.specs.Prelude.{◌≡◌};
 ghost use Rattle.groups.specs.Groups.{good_group, group_of, good_period, period_of, good_time, time_of, on_clock, same_group};
 
 use figures::two;
 use lists::both;
 
-#[derive(Drop)]
+#[derive(Clone, Copy)]
 pub struct Group {
     pub day: u8,
     pub hour: u8,
@@ -18,7 +19,7 @@ pub const NO_GROUP: Group = Group {
     minute: 0,
 };
 
-#[derive(Drop)]
+#[derive(Clone, Copy)]
 pub struct Period {
     pub from: Group,
     pub to: Group,
@@ -30,7 +31,7 @@ pub const NO_PERIOD: Period = Period {
 };
 
 // Hour and minute of a day.
-#[derive(Drop)]
+#[derive(Clone, Copy)]
 pub struct Time {
     pub hour: u8,
     pub minute: u8,

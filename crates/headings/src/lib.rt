@@ -1,4 +1,5 @@
 // The words of heading and first line that have a shape of their own: designator, correction, office and sequence.
+#![tactic(auto)]
 ghost use Rattle.std.specs.Prelude.{◌≡◌, ◌^◌};
 ghost use Rattle.lists.specs.Choice.{pick};
 ghost use Rattle.words.specs.Bytes.{between};
@@ -16,7 +17,7 @@ pub const KIND_WS: u8 = 2;
 pub const KIND_WV: u8 = 3;
 
 // The kind, the two letters in base 256 and the two digits.
-#[derive(Drop)]
+#[derive(Clone, Copy)]
 pub struct Designator {
     pub kind: u8,
     pub region: u32,
@@ -30,7 +31,7 @@ pub const NO_DESIGNATOR: Designator = Designator {
 };
 
 // As written: a letter or 0, how many digits, and the number that they count.
-#[derive(Drop)]
+#[derive(Clone, Copy)]
 pub struct Sequence {
     pub letter: u8,
     pub digits: u8,

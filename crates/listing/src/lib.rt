@@ -1,4 +1,5 @@
 // The listing: what is in force at a time, as records in a lent buffer.
+#![tactic(auto)]
 ghost use Rattle.std.specs.Prelude.{◌≡◌, ◌+◌, ◌*◌, ◌≤◌, length};
 ghost use Rattle.pens.specs.Outcomes.{wrote};
 ghost use Rattle.pens.specs.Pens.{Puts};

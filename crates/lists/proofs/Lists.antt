@@ -122,6 +122,7 @@ all-by f (x ∷ xs) d h = both_true (h 0 (suc-le-suc zero-le)) (all-by f xs d (�
 
 pub all_among : {A : Type 0} (f : A → Bool) (xs : List A) (q : A) → all_of f xs ≡ true → Memᴰ q xs → f q ≡ true
 unfolding all_of
+all_among {A = A} f [] q h m = elim m [ ]
 all_among f (x ∷ xs) q h (Memᴰ.head e) = ap f e ∙ both_left (f x) (all_of f xs) h
 all_among f (x ∷ xs) q h (Memᴰ.tail m) = all_among f xs q (both_right (f x) (all_of f xs) h) m
 

@@ -1,4 +1,5 @@
 // The record of one SIGMET. Where a form does not use a place, the place is zero and a choice takes its empty case.
+#![tactic(auto)]
 ghost use Rattle.std.specs.Prelude.{◌≡◌};
 ghost use Rattle.message.specs.Records.{good_heading, good_line, good_area, same_sequence, names_itself, good_cancellation, good_form, good};
 
@@ -53,7 +54,7 @@ pub const OBSERVED: u8 = 1;
 pub const FORECAST: u8 = 2;
 
 // Letters are kept as one number, in base 256.
-#[derive(Drop)]
+#[derive(Clone, Copy)]
 pub struct Heading {
     pub designator: Designator,
     pub centre: u32,
@@ -61,7 +62,7 @@ pub struct Heading {
     pub correction: u8,
 }
 
-#[derive(Drop)]
+#[derive(Clone, Copy)]
 pub struct FirstLine {
     pub unit: u32,
     pub sequence: Sequence,
@@ -70,7 +71,7 @@ pub struct FirstLine {
 }
 
 // The text of a name, its words parted by single spaces: the first `count` bytes. The others are zero.
-#[derive(Drop)]
+#[derive(Clone, Copy)]
 pub struct Name {
     pub bytes: [u8; NAME_BYTES],
     pub count: usize,
@@ -82,7 +83,7 @@ pub const NO_NAME: Name = Name {
 };
 
 // The closing word is 1 FIR, 2 FIR/UIR or 3 CTA.
-#[derive(Drop)]
+#[derive(Clone, Copy)]
 pub struct Area {
     pub indicator: u32,
     pub name: Name,
@@ -90,7 +91,7 @@ pub struct Area {
 }
 
 // A test by its text, 1 to 3; a cancellation by its target's sequence and start (its end is that of VALID); or a report.
-#[derive(Drop)]
+#[derive(Clone, Copy)]
 pub enum Form {
     NoForm,
     Test(u8),
@@ -99,7 +100,7 @@ pub enum Form {
 }
 
 // What erupts: a mountain, where it is named, and its position.
-#[derive(Drop)]
+#[derive(Clone, Copy)]
 pub struct Volcano {
     pub name: Name,
     pub position: Point,
@@ -111,7 +112,7 @@ pub const NO_VOLCANO: Volcano = Volcano {
 };
 
 // OBS or FCST, and the time, where one is given.
-#[derive(Drop)]
+#[derive(Clone, Copy)]
 pub struct Observation {
     pub word: u8,
     pub timed: bool,
@@ -122,7 +123,7 @@ pub struct Observation {
 pub const UNTIMED: Time = Time { hour: 0, minute: 0 };
 
 // `N OF` a latitude, and so on: the letter before OF, and the coordinate.
-#[derive(Drop)]
+#[derive(Clone, Copy)]
 pub struct Side {
     pub of: u8,
     pub at: Coordinate,
@@ -133,14 +134,14 @@ pub const NO_SIDE: Side = Side {
     at: NO_COORDINATE,
 };
 
-#[derive(Drop)]
+#[derive(Clone, Copy)]
 pub struct Bound {
     pub latitude: Side,
     pub longitude: Side,
 }
 
 // Exactly one of three things: a bound, an outline of so many points, or the entire area. `Nowhere` is the empty case.
-#[derive(Drop)]
+#[derive(Clone, Copy)]
 pub enum Location {
     Nowhere,
     Bounded(Bound),
@@ -149,7 +150,7 @@ pub enum Location {
 }
 
 // A location with the points of its outline beside it.
-#[derive(Drop)]
+#[derive(Clone, Copy)]
 pub struct Extent {
     pub location: Location,
     pub points: [Point; MOST_POINTS],
@@ -163,7 +164,7 @@ pub const NO_EXTENT: Extent = Extent {
 };
 
 // Movement as compass point, speed and intensity; no movement and intensity; or intensity and a forecast.
-#[derive(Drop)]
+#[derive(Clone, Copy)]
 pub enum Ending {
     NoEnding,
     Moving(u8, Speed, u8),
@@ -172,7 +173,7 @@ pub enum Ending {
 }
 
 // The phenomenon is 1 to 17, in the paper's order; 0 is none.
-#[derive(Drop)]
+#[derive(Clone, Copy)]
 pub struct Report {
     pub phenomenon: u8,
     pub volcano: Volcano,
@@ -197,7 +198,7 @@ pub const NO_REPORT: Report = Report {
     forecast: NO_EXTENT,
 };
 
-#[derive(Drop)]
+#[derive(Clone, Copy)]
 pub struct Record {
     pub heading: Heading,
     pub line: FirstLine,

@@ -1,4 +1,5 @@
 // Movement and change: compass points, speeds and intensity words.
+#![tactic(auto)]
 ghost use Rattle.std.specs.Prelude.{◌≡◌};
 ghost use Rattle.figures.specs.Tables.{number_in};
 ghost use Rattle.motions.specs.Motions.{compass_of, intensity_of};
@@ -8,7 +9,7 @@ use figures::{code, find, two};
 use lists::both;
 
 // 1 to 99, in 1 knots or 2 kilometres an hour.
-#[derive(Drop)]
+#[derive(Clone, Copy)]
 pub struct Speed {
     pub value: u8,
     pub unit: u8,

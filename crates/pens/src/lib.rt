@@ -1,5 +1,6 @@
 // A pen over a lent buffer. It stands at a place, puts bytes there and answers with the place behind them. At the end of the buffer it
 // stops: what does not fit is not put, and the pen stays.
+#![tactic(auto)]
 ghost use Rattle.std.specs.Prelude.{[], ◌∷◌, ◌≡◌, ◌+◌, ◌≤◌, ◌<◌};
 ghost use Rattle.lists.specs.Base.{places};
 ghost use Rattle.figures.specs.Codes.{behind_one, spell_code};
@@ -7,7 +8,7 @@ ghost use Rattle.figures.specs.Figures.{in_figures};
 ghost use Rattle.pens.specs.Pens.{Puts, Words, shifted};
 
 // What writing comes to: the refusal number, 0 for none, and the count of bytes written, 0 where refused.
-#[derive(Drop)]
+#[derive(Clone, Copy)]
 pub struct Written {
     pub number: u8,
     pub count: usize,

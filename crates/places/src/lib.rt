@@ -1,4 +1,5 @@
 // One place of a board, and what a message claims.
+#![tactic(auto)]
 mod claims;
 mod padding;
 mod places;
@@ -8,7 +9,7 @@ pub use places::{empty_place, good_place, no_place, same_identity};
 
 // The type as its kind in the listing, 2 WS or 3 WV; the area's letters and the sequence's characters, filled up to three with spaces, in
 // base 256; start and end in minutes from 2000-01-01 0000Z.
-#[derive(Drop)]
+#[derive(Clone, Copy)]
 pub struct Identity {
     pub kind: u8,
     pub area: u32,
@@ -18,7 +19,7 @@ pub struct Identity {
 }
 
 // The correction is its letter, or 0 for none. All zero is an empty place.
-#[derive(Drop)]
+#[derive(Clone, Copy)]
 pub struct Place {
     pub identity: Identity,
     pub correction: u8,
@@ -26,7 +27,7 @@ pub struct Place {
 }
 
 // What a message asks for: a refusal number, or 0 and the place that it would take.
-#[derive(Drop)]
+#[derive(Clone, Copy)]
 pub struct Claim {
     pub answer: u8,
     pub place: Place,

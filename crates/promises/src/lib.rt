@@ -1,1 +1,2 @@
 // No code: the promises are about the contracts of the functions of every library.
+#![tactic(auto)]

@@ -1,4 +1,5 @@
 // The reader: bytes to a reply.
+#![tactic(auto)]
 ghost use Rattle.std.specs.Prelude.{◌≡◌};
 ghost use Rattle.grammar.specs.Reads.{read_of};
 

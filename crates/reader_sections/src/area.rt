@@ -8,7 +8,7 @@ use crate::required_words::{closing_at, letters_at};
 use crate::steps::Step;
 use message::{Area, NAME_BYTES};
 
-#[derive(Drop)]
+#[derive(Clone, Copy)]
 pub(crate) struct AreaRead {
     pub step: Step,
     pub area: Area,

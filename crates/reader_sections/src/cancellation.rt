@@ -13,7 +13,7 @@ use headings::Sequence;
 use lists::both;
 use message::{FirstLine, names_itself};
 
-#[derive(Drop)]
+#[derive(Clone, Copy)]
 pub(crate) struct CancellationRead {
     pub step: Step,
     pub sequence: Sequence,

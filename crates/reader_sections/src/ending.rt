@@ -22,7 +22,7 @@ use lists::both;
 use message::{Ending, Extent, Form, NO_EXTENT, Observation, Report, Volcano};
 
 // What was read up to the level of a report, with the opening before it.
-#[derive(Drop)]
+#[derive(Clone, Copy)]
 pub(crate) struct UpToLevel {
     pub opening: Opening,
     pub phenomenon: u8,
@@ -32,7 +32,7 @@ pub(crate) struct UpToLevel {
     pub level: Level,
 }
 
-#[derive(Drop)]
+#[derive(Clone, Copy)]
 struct MovementRead {
     pub step: Step,
     pub ending: Ending,

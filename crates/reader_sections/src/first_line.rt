@@ -7,7 +7,7 @@ use crate::required_words::{letters_at, office_at, period_at, sequence_at};
 use crate::steps::{Step, fixed_at};
 use message::FirstLine;
 
-#[derive(Drop)]
+#[derive(Clone, Copy)]
 pub(crate) struct LineRead {
     pub step: Step,
     pub line: FirstLine,

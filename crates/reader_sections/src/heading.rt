@@ -8,13 +8,13 @@ use crate::steps::{Step, step_at};
 use headings::correction_word;
 use message::Heading;
 
-#[derive(Drop)]
+#[derive(Clone, Copy)]
 struct CorrectionRead {
     pub step: Step,
     pub correction: u8,
 }
 
-#[derive(Drop)]
+#[derive(Clone, Copy)]
 pub(crate) struct HeadingRead {
     pub step: Step,
     pub heading: Heading,

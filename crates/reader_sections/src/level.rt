@@ -9,13 +9,13 @@ use crate::parts;
 use crate::steps::{Step, code_of, judged, perhaps_at, step_at};
 use levels::{Level, empty_level, level_word};
 
-#[derive(Drop)]
+#[derive(Clone, Copy)]
 pub(crate) struct LevelRead {
     pub step: Step,
     pub level: Level,
 }
 
-#[derive(Drop)]
+#[derive(Clone, Copy)]
 struct FlightRead {
     pub step: Step,
     pub flight: u32,

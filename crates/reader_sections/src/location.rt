@@ -11,7 +11,7 @@ use crate::steps::{Step, code_of, fixed_at, judged, perhaps_at, step_at};
 use message::{Bound, Extent, Location, NO_POINTS, NO_SIDE, Side};
 use names::CLOSED_BY_CTA;
 
-#[derive(Drop)]
+#[derive(Clone, Copy)]
 pub(crate) struct LocationRead {
     pub step: Step,
     pub extent: Extent,

@@ -9,7 +9,7 @@ use crate::steps::{Step, judged, step_at};
 use message::{NAME_BYTES, NO_NAME, Name};
 use names::in_name;
 
-#[derive(Drop)]
+#[derive(Clone, Copy)]
 pub(crate) struct NameRead {
     pub step: Step,
     pub name: Name,

@@ -7,7 +7,7 @@ use crate::required_words::time_at;
 use crate::steps::{Step, code_of, judged, perhaps_at, step_at};
 use message::{FORECAST, OBSERVED, Observation, UNTIMED};
 
-#[derive(Drop)]
+#[derive(Clone, Copy)]
 pub(crate) struct ObservationRead {
     pub step: Step,
     pub observation: Observation,

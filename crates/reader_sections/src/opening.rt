@@ -8,14 +8,14 @@ use crate::heading::read_heading;
 use crate::steps::Step;
 use message::{Area, FirstLine, Heading};
 
-#[derive(Drop)]
+#[derive(Clone, Copy)]
 pub(crate) struct Opening {
     pub heading: Heading,
     pub line: FirstLine,
     pub area: Area,
 }
 
-#[derive(Drop)]
+#[derive(Clone, Copy)]
 pub(crate) struct OpeningRead {
     pub step: Step,
     pub opening: Opening,

@@ -13,7 +13,7 @@ use coordinates::{Coordinate, Point, latitude, longitude, same_latitude, same_po
 use lists::{both, either};
 use message::{Extent, LEAST_POINTS, Location, MOST_POINTS, NO_POINTS};
 
-#[derive(Drop)]
+#[derive(Clone, Copy)]
 struct PointRead {
     pub step: Step,
     pub point: Point,

@@ -17,7 +17,7 @@ const STORMS: [u64; 4] = [
     vocabulary::SQL,
 ];
 
-#[derive(Drop)]
+#[derive(Clone, Copy)]
 pub(crate) struct WeatherRead {
     pub step: Step,
     pub phenomenon: u8,

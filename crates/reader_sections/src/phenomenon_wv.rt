@@ -9,7 +9,7 @@ use crate::steps::{Step, fixed_at, long_at, perhaps_at};
 use coordinates::Point;
 use message::{ASH_CLOUD, ASH_ERUPTION, MOUNTAIN_BYTES, NO_NAME, NO_VOLCANO, Volcano};
 
-#[derive(Drop)]
+#[derive(Clone, Copy)]
 pub(crate) struct PhenomenonRead {
     pub step: Step,
     pub phenomenon: u8,

@@ -18,73 +18,73 @@ use headings::{Designator, Sequence, designator_word, office_word, sequence_word
 use motions::{NO_COMPASS, Speed, compass_word, intensity_word, speed_word};
 use names::closing_word;
 
-#[derive(Drop)]
+#[derive(Clone, Copy)]
 pub(crate) struct DesignatorRead {
     pub step: Step,
     pub designator: Designator,
 }
 
-#[derive(Drop)]
+#[derive(Clone, Copy)]
 pub(crate) struct LettersRead {
     pub step: Step,
     pub letters: u32,
 }
 
-#[derive(Drop)]
+#[derive(Clone, Copy)]
 pub(crate) struct GroupRead {
     pub step: Step,
     pub group: Group,
 }
 
-#[derive(Drop)]
+#[derive(Clone, Copy)]
 pub(crate) struct SequenceRead {
     pub step: Step,
     pub sequence: Sequence,
 }
 
-#[derive(Drop)]
+#[derive(Clone, Copy)]
 pub(crate) struct PeriodRead {
     pub step: Step,
     pub period: Period,
 }
 
-#[derive(Drop)]
+#[derive(Clone, Copy)]
 pub(crate) struct OfficeRead {
     pub step: Step,
     pub office: u32,
 }
 
-#[derive(Drop)]
+#[derive(Clone, Copy)]
 pub(crate) struct ClosingRead {
     pub step: Step,
     pub closing: u8,
 }
 
-#[derive(Drop)]
+#[derive(Clone, Copy)]
 pub(crate) struct CoordinateRead {
     pub step: Step,
     pub coordinate: Coordinate,
 }
 
-#[derive(Drop)]
+#[derive(Clone, Copy)]
 pub(crate) struct TimeRead {
     pub step: Step,
     pub time: Time,
 }
 
-#[derive(Drop)]
+#[derive(Clone, Copy)]
 pub(crate) struct CompassRead {
     pub step: Step,
     pub compass: u8,
 }
 
-#[derive(Drop)]
+#[derive(Clone, Copy)]
 pub(crate) struct SpeedRead {
     pub step: Step,
     pub speed: Speed,
 }
 
-#[derive(Drop)]
+#[derive(Clone, Copy)]
 pub(crate) struct IntensityRead {
     pub step: Step,
     pub intensity: u8,

@@ -11,7 +11,7 @@ use vocabulary::same_word;
 use words::{Span, word_at};
 
 // Number 0: the next word is that from the place to the end. Any other: the word at the place is refused, and the end is the place.
-#[derive(Drop)]
+#[derive(Clone, Copy)]
 pub(crate) struct Step {
     pub number: u8,
     pub place: usize,
@@ -19,7 +19,7 @@ pub(crate) struct Step {
 }
 
 // Where a word that may be left out is not found, the step stays before the word that is there.
-#[derive(Drop)]
+#[derive(Clone, Copy)]
 pub(crate) struct PerhapsRead {
     pub found: bool,
     pub step: Step,

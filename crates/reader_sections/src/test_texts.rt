@@ -5,7 +5,7 @@ ghost use Rattle.reader_sections.specs.Steps.{Stands};
 use crate::parts;
 use crate::steps::{Step, fixed_at, long_at, perhaps_at};
 
-#[derive(Drop)]
+#[derive(Clone, Copy)]
 pub(crate) struct TestRead {
     pub step: Step,
     pub test: u8,

@@ -1,5 +1,6 @@
 // Posts and lists by a script on standard input, and prints what each call answers: a program for tests. The script's grammar stands in
 // docs/REPLAY.md.
+#![tactic(auto)]
 ghost use Rattle.std.specs.Prelude.{◌≡◌, ◌≤◌, ◌<◌, length};
 
 mod calls;
@@ -18,7 +19,7 @@ const MOST: usize = 1048576;
 const ROOM: u32 = 2000;
 
 // The board, and where the script goes on; the script's length where it is over.
-#[derive(Drop)]
+#[derive(Clone, Copy)]
 struct State {
     board: Board,
     at: usize,

@@ -6,14 +6,14 @@ use lists::both;
 use words::is_digit;
 
 // Was the byte there?
-#[derive(Drop)]
+#[derive(Clone, Copy)]
 pub(crate) struct Skipped {
     pub(crate) found: bool,
     pub(crate) next: usize,
 }
 
 // A number of at most 4,294,967,295.
-#[derive(Drop)]
+#[derive(Clone, Copy)]
 pub(crate) struct Number {
     pub(crate) formed: bool,
     pub(crate) value: u32,
@@ -21,7 +21,7 @@ pub(crate) struct Number {
 }
 
 // The two numbers of a command.
-#[derive(Drop)]
+#[derive(Clone, Copy)]
 pub(crate) struct Head {
     pub(crate) formed: bool,
     pub(crate) first: u32,

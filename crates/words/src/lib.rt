@@ -1,4 +1,5 @@
 // Bytes to words: refusal numbers 1 to 3 with place and length, and the word at a place of the text before `=`, with its length.
+#![tactic(auto)]
 ghost use Rattle.std.specs.Prelude.{◌≡◌};
 ghost use Rattle.words.specs.Bytes.{letter, digit};
 ghost use Rattle.words.specs.Check.{check_of};
@@ -12,7 +13,7 @@ mod walks;
 use lists::both;
 
 // The refusal number with its place and length, or number 0 with the place of the first `=` and length 0.
-#[derive(Drop)]
+#[derive(Clone, Copy)]
 pub struct Checked {
     pub number: u8,
     pub place: usize,
@@ -20,7 +21,7 @@ pub struct Checked {
 }
 
 // Where a word begins, and where it ends: the end is not counted.
-#[derive(Drop)]
+#[derive(Clone, Copy)]
 pub struct Span {
     pub start: usize,
     pub end: usize,

@@ -2,12 +2,8 @@
 use Rattle.words.specs.Bytes.{allowed}
 use Rattle.words.specs.Kinds.{kind_of}
 use Rattle.words.proofs.KindLaws.{kinds-right}
-use Rattle.words.proofs.table.kinds.Statement.{statement}
-use Rattle.words.proofs.table.kinds.Tie as tie
+use Rattle.words.proofs.table.kinds.Goals as goal
 
-returns : tie.Need-returns
+pub returns : goal.returns
 unfolding allowed kind_of
 returns c = search kinds-right
-
-pub kinds-spec : {M : Type 1} → statement M
-kinds-spec = tie.close (tie.spec returns)

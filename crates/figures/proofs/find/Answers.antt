@@ -1,0 +1,23 @@
+-- `find` meets its contract: the loop keeps what is still to be found.
+use mathlib.Core.Path.{◌≡◌, sym, ◌∙◌}
+use Prim.Native.Nat.{◌-◌}
+use native.Mathlib.Omega.{arith}
+use lib.Dec.{eqb}
+use lib.ListN.{length}
+use borrow.Author.Tests.{eq-eqb, ne_eqb}
+use Rattle.lists.specs.Lists.{index_of, index_from}
+use Rattle.lists.proofs.Lists.{from_zero, from-here, from_past, from-none}
+use borrow.Author.Rules.{rules}
+use Rattle.figures.proofs.find.Goals as goal
+
+pub loop-i-init : goal.loop-i-init
+loop-i-init c = sym (from_zero (eqb _) _)
+
+pub returns-then-code-table : goal.returns-then-code-table
+returns-then-code-table c = sym (c.loop-i.invariant ∙ from-here (eqb _) _ _ 0 (omega arith) (eq-eqb _ _ c.if-code-table.true))
+
+pub loop-i-preserved : goal.loop-i-preserved
+loop-i-preserved c = c.loop-i.invariant ∙ from_past (eqb _) _ _ 0 (omega arith) (ne_eqb _ _ c.if-code-table.false)
+
+pub returns : goal.returns
+returns c = sym (c.loop-i.invariant ∙ from-none (eqb _) _ _ (omega arith))

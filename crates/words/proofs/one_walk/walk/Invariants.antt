@@ -1,0 +1,16 @@
+-- `one_walk::walk` meets its contract: no byte before place i is `=` or not allowed.
+use Prim.Native.Nat.{ℕ, ◌-◌, ◌≤◌}
+use mathlib.Core.List.{List}
+use mathlib.Core.Path.{refl}
+use native.Mathlib.Omega.{arith}
+use lib.ListN.{length}
+use Rattle.words.specs.Seen.{no_equals, all_seen}
+use Rattle.words.proofs.KnownLaws.{Known, Turn, turn-again, turn-quiet, known-comes}
+use borrow.Author.Rules.{rules}
+use Rattle.words.proofs.one_walk.walk.Given as goal
+
+abbrev pub invariant-loop-i : goal.invariant-loop-i
+invariant-loop-i l = (l.i ≤ l.length) × Known l.b l.i l.no_equals (all_seen l.no_equals 0 l.b)
+
+abbrev pub decreases-loop-i : goal.decreases-loop-i
+decreases-loop-i l = l.length - l.i

@@ -1,0 +1,16 @@
+-- `walks::first_blank` meets its contract: the loop keeps what is still to be found.
+use Prim.Native.Nat.{◌-◌}
+use mathlib.Core.Path.{◌≡◌, refl}
+use native.Mathlib.Omega.{arith}
+use lib.ListN.{length}
+use Rattle.lists.specs.Lists.{index_from}
+use Rattle.words.specs.Bytes.{blank}
+use Rattle.words.proofs.Walk.{walk-found, walk-past, walk_none}
+use borrow.Author.Rules.{rules}
+use Rattle.words.proofs.walks.first_blank.Given as goal
+
+abbrev pub invariant-loop-i : goal.invariant-loop-i
+invariant-loop-i l = index_from blank l.start l.b ≡ index_from blank l.i l.b
+
+abbrev pub decreases-loop-i : goal.decreases-loop-i
+decreases-loop-i l = length l.b - l.i
