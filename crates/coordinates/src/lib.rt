@@ -1,5 +1,6 @@
 // Latitudes, longitudes and points: read from a word, judged, and valued in signed minutes.
 #![tactic(auto)]
+
 ghost use Rattle.std.specs.Prelude.{◌≡◌};
 ghost use Rattle.coordinates.specs.Coordinates.{north_south, east_west, coordinate_of, good_coordinate, empty_coordinate, signed_of};
 ghost use Rattle.coordinates.specs.Points.{apart, same_value, same_point, good_point, empty_point};

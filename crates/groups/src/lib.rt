@@ -1,5 +1,6 @@
 // Day, hour and minute: the six-digit group, `group/group` and `GGggZ`.
 #![tactic(auto)]
+
 ghost use Rattle.std.specs.Prelude.{◌≡◌};
 ghost use Rattle.groups.specs.Groups.{good_group, group_of, good_period, period_of, good_time, time_of, on_clock, same_group};
 

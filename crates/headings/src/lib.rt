@@ -1,5 +1,6 @@
 // The words of heading and first line that have a shape of their own: designator, correction, office and sequence.
 #![tactic(auto)]
+
 ghost use Rattle.std.specs.Prelude.{◌≡◌, ◌^◌};
 ghost use Rattle.lists.specs.Choice.{pick};
 ghost use Rattle.words.specs.Bytes.{between};

@@ -1,5 +1,6 @@
 // Levels: the word of a level, and the judgement of any level.
 #![tactic(auto)]
+
 ghost use Rattle.std.specs.Prelude.{◌≡◌, ◌≤◌, length};
 ghost use Rattle.words.specs.Bytes.{between};
 ghost use Rattle.levels.specs.Levels.{good_band, feet_figures, five, surface_nine, band_nine, nine, ten_eleven, level_of, good_level, empty_level};

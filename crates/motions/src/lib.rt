@@ -1,5 +1,6 @@
 // Movement and change: compass points, speeds and intensity words.
 #![tactic(auto)]
+
 ghost use Rattle.std.specs.Prelude.{◌≡◌};
 ghost use Rattle.figures.specs.Tables.{number_in};
 ghost use Rattle.motions.specs.Motions.{compass_of, intensity_of};

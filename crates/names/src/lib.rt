@@ -1,5 +1,6 @@
 // Names: one word of a name, the words that close one, and the text of a whole name.
 #![tactic(auto)]
+
 ghost use Rattle.std.specs.Prelude.{◌≡◌, eqb};
 ghost use Rattle.lists.specs.Lists.{all_of, index_from};
 ghost use Rattle.names.specs.Names.{name_byte, name_word, closing_of, in_name, name_text};

@@ -1,6 +1,7 @@
 // A pen over a lent buffer. It stands at a place, puts bytes there and answers with the place behind them. At the end of the buffer it
 // stops: what does not fit is not put, and the pen stays.
 #![tactic(auto)]
+
 ghost use Rattle.std.specs.Prelude.{[], ◌∷◌, ◌≡◌, ◌+◌, ◌≤◌, ◌<◌};
 ghost use Rattle.lists.specs.Base.{places};
 ghost use Rattle.figures.specs.Codes.{behind_one, spell_code};

@@ -1,6 +1,7 @@
 // The fixed words of the paper, each once: whoever reads or writes one names it here. A word of at most seven bytes is its code, a 1 and then
 // its bytes, so that one number tells it and puts it.
 #![tactic(auto)]
+
 ghost use Rattle.std.specs.Prelude.{◌≡◌};
 ghost use Rattle.lists.specs.Lists.{same as same_as};
 

@@ -1,0 +1,6 @@
+-- `latitude` meets its contract, which is that of `axis::coordinate` on its axis.
+use borrow.Author.Rules.{rules}
+use Rattle.coordinates.proofs.latitude.Goals as goal
+
+pub returns : goal.returns
+returns c = c.coordinate.ensures

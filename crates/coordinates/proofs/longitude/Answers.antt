@@ -1,0 +1,6 @@
+-- `longitude` meets its contract, which is that of `axis::coordinate` on its axis.
+use borrow.Author.Rules.{rules}
+use Rattle.coordinates.proofs.longitude.Goals as goal
+
+pub returns : goal.returns
+returns c = c.coordinate.ensures
