@@ -1,4 +1,5 @@
 -- `ten_to` meets its contract: each arm is a power of ten.
+use Rattle.std.proofs.Common.{rules}
 use Rattle.headings.proofs.SequenceLaws.{ten-none}
 use Rattle.headings.proofs.ten_to.Goals as goal
 
@@ -12,4 +13,4 @@ pub returns-in-3 : goal.returns-in-3
 returns-in-3 c = rw c.in-3.is
 
 pub returns-in_default : goal.returns-in_default
-returns-in_default c = ten-none _ c.in_default.not-1 c.in_default.not-2 c.in_default.not-3
+returns-in_default c = search (ten-none, rules)

@@ -12,12 +12,9 @@ use Rattle.levels.specs.contracts.Level.{the_type}
 use borrow.Author.Rules.{rules}
 use Rattle.levels.proofs.empty_level.Goals as goal
 
-abbrev others : List ℕ
-others = 1 ∷ 2 ∷ 3 ∷ 4 ∷ 5 ∷ 6 ∷ 7 ∷ 8 ∷ []
-
-not-empty : (l : Level) → OneOf others (tag_of the_type l) → empty_level l ≡ false
+not-empty : (l : Level) → (l ≡ NoLevel → ⊥) → empty_level l ≡ false
 unfolding empty_level
-not-empty NoLevel t = absurd (miss others 0 tt t)
+not-empty NoLevel t = absurd (t refl)
 not-empty (Flight n) t = refl
 not-empty (SurfaceFlight n) t = refl
 not-empty (SurfaceMetres n) t = refl
@@ -32,4 +29,4 @@ unfolding empty_level
 returns-in-NoLevel c = sym (ap empty_level c.in-NoLevel.is)
 
 pub returns-in_default : goal.returns-in_default
-returns-in_default c = sym (not-empty c.args.l c.in_default.is)
+returns-in_default c = sym (not-empty c.args.l c.in_default.not-NoLevel)

@@ -1,7 +1,8 @@
 -- `ten_or_eleven` meets its contract: its tests are those of the definition.
 use mathlib.Core.Bool.{true, false}
 use mathlib.Core.Path.{◌≡◌, ap, ◌∙◌}
-use Prim.Native.Nat.{◌-◌}
+use Prim.Native.Nat.{ℕ, ◌-◌}
+use mathlib.Core.List.{List}
 use native.Mathlib.Omega.{arith}
 use lib.Dec.{eqb}
 use lib.ListN.{length, drop}
@@ -16,19 +17,19 @@ use Rattle.levels.specs.Levels.{feet_figures}
 use Rattle.vocabulary.proofs.FixedWords.{fixed-ft, fixed-surface}
 use borrow.Author.Rules.{rules}
 use Rattle.levels.proofs.ten_or_eleven.Goals as goal
-use Rattle.levels.proofs.ten_or_eleven.Goals.{After-both, After-code-2, Else-code-ne-FT, Else-code-ne-SURFACE, Then-code-ne-FT}
+use Rattle.levels.proofs.ten_or_eleven.Goals.{After-both, Else-code-ne-FT, Else-code-ne-SURFACE, Then-code-ne-FT}
 
 is-surface : (c : Else-code-ne-SURFACE) → same (part 0 4 c.args.w.now) (bytes "SFC/") ≡ true
 is-surface c = same-yes fixed-surface _ c.code.ensures c.if-code-ne-SURFACE.false
 
-at-end : (c : After-code-2) → c.code-2.result ≡ code_of (drop (length c.args.w.now - 2) c.args.w.now)
-at-end c = c.code-2.ensures ∙ ap code_of (part-rest c.args.w.now (length c.args.w.now - 2))
+at-end : (n : ℕ) (w : List ℕ) → n ≡ code_of (part (length w - 2) (length w) w) → n ≡ code_of (drop (length w - 2) w)
+at-end n w e = e ∙ ap code_of (part-rest w (length w - 2))
 
 is-feet : (c : Else-code-ne-FT) → same (drop (length c.args.w.now - 2) c.args.w.now) (bytes "FT") ≡ true
-is-feet c = same-yes fixed-ft _ (at-end c.before) c.if-code-ne-FT.false
+is-feet c = same-yes fixed-ft _ (at-end _ c.args.w.now c.code-2.ensures) c.if-code-ne-FT.false
 
 no-feet : (c : Then-code-ne-FT) → same (drop (length c.args.w.now - 2) c.args.w.now) (bytes "FT") ≡ false
-no-feet c = same-no fixed-ft _ (at-end c.before) c.if-code-ne-FT.true
+no-feet c = same-no fixed-ft _ (at-end _ c.args.w.now c.code-2.ensures) c.if-code-ne-FT.true
 
 test : (c : After-both) → both (between 1 99999 c.figures-n.result) (eqb (feet_figures c.figures-n.result) (length c.args.w.now - 6)) ≡ c.both.result
 test c =
