@@ -1,7 +1,7 @@
 -- 01, "An accepted post sets the board's clock and first drops places whose end is at or before it. A report takes a place, or replaces the
 -- one of its identity when its correction is later (none, then A to X). A cancellation marks its target's place, or takes a marked place
 -- where none is held; …. Dropped places become empty where they stand, and a new place is the lowest empty one."
--- Tied: `any-board` (crates/promises/proofs/Board_answers.antt).
+-- Tied: `any-board` (crates/promises/proofs/BoardAnswers.antt).
 use Rattle.std.specs.Prelude.{Bool, not, List, map, ◌≡◌, ℕ, ◌<◌, leb, ltb, eqb, length, get_or, set}
 use Rattle.lists.specs.Choice.{pick, both}
 use Rattle.lists.specs.Lists.{index_of}

@@ -10,7 +10,7 @@ use Rattle.lists.proofs.Choice.{by, clash, both_left, both_right, both_true, bot
 use Rattle.groups.specs.declared.Group.{Group}
 use Rattle.calendar.specs.Gregorian.{month_length, first_day, never, Falls}
 use Rattle.calendar.specs.Instants.{day_from, day_of_month, matches, minute_on, on_day, or_else, instant_in, start_of, end_of, target_of}
-use Rattle.calendar.specs.Declared.{limit_of, Has, IsStart, IsEnd, IsTarget}
+use Rattle.calendar.specs.Meanings.{limit_of, Has, IsStart, IsEnd, IsTarget}
 use Rattle.calendar.proofs.MonthLaws.{first-gap, day-of-month}
 use Rattle.calendar.proofs.CenturyLaws.{falls-some}
 

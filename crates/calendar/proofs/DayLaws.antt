@@ -7,7 +7,7 @@ use borrow.Author.Tests.{lt-ltb, le-ltb}
 use Rattle.groups.specs.declared.Group.{Group}
 use Rattle.calendar.specs.Gregorian.{first_day, days, never, Falls}
 use Rattle.calendar.specs.Instants.{minute_on, on_day, instant_in}
-use Rattle.calendar.specs.Declared.{Has}
+use Rattle.calendar.specs.Meanings.{Has}
 use Rattle.calendar.proofs.MonthLaws.{falls-only}
 use Rattle.calendar.proofs.CalendarLaws.{In, on-there, on_none}
 

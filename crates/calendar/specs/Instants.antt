@@ -1,12 +1,12 @@
 -- 01, "A start group means the one instant …. The end is the first such instant after the start, …. A cancellation's target …; its start is
 -- the latest matching instant before that, under the same limit." How each is found: the instant that has the group, if there is one,
--- lies on one of three days. specs/Declared.antt says what each is; proofs/Calendar_laws.antt that the two agree.
--- Tied: `start-found`, `start-complete`, `end-found`, `end-complete`, `target_found`, `target-complete` (crates/calendar/proofs/Calendar_laws.antt).
+-- lies on one of three days. specs/Meanings.antt says what each is; proofs/CalendarLaws.antt that the two agree.
+-- Tied: `start-found`, `start-complete`, `end-found`, `end-complete`, `target_found`, `target-complete` (crates/calendar/proofs/CalendarLaws.antt).
 use Rattle.std.specs.Prelude.{Bool, ℕ, zero, suc, ◌+◌, ◌-◌, ◌*◌, ◌/◌, ◌%◌, leb, ltb, eqb}
 use Rattle.lists.specs.Choice.{pick, both}
 use Rattle.groups.specs.declared.Group.{Group}
 use Rattle.calendar.specs.Gregorian.{month_length, months, never}
-use Rattle.calendar.specs.Declared.{limit_of}
+use Rattle.calendar.specs.Meanings.{limit_of}
 
 -- what day of its month a day is, months being passed one by one from month m on: 1 for the first
 unfoldable pub day_from : ℕ → ℕ → ℕ → ℕ

@@ -1,3 +1,3 @@
 pub mod Gregorian
-pub mod Declared
+pub mod Meanings
 pub mod Instants

@@ -1,7 +1,8 @@
 // Groups of day, hour and minute to instants: whole minutes from 2000-01-01 0000Z to the end of 2099.
 #![tactic(auto)]
+
 ghost use Rattle.std.specs.Prelude.{◌≡◌, ◌+◌, ◌-◌, ◌≤◌};
-ghost use Rattle.calendar.specs.Declared.{limit_of};
+ghost use Rattle.calendar.specs.Meanings.{limit_of};
 ghost use Rattle.calendar.specs.Instants.{on_day, instant_in, start_of, end_of, target_of};
 
 mod months;

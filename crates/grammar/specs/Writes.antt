@@ -1,5 +1,5 @@
 -- 01, "Writer: 13 bad record; 24 text over 2,048 bytes; 14 buffer shorter than what would be written. Count 0, buffer untouched."
--- Tied: `three-outcomes` (crates/roundtrips/proofs/Round_trips.antt).
+-- Tied: `three-outcomes` (crates/roundtrips/proofs/RoundTrips.antt).
 use Rattle.std.specs.Prelude.{not, List, ℕ, ltb, length}
 use Rattle.lists.specs.Choice.{pick}
 use Rattle.pens.specs.Outcomes.{Wrote, unwritten, written}

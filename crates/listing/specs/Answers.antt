@@ -1,5 +1,5 @@
 -- 01, "Listing: 36, 16, 17, then 14 (count 0, buffer untouched).": the answer to a listing of a board, by its places.
--- Tied: `any-listing` (crates/promises/proofs/Board_listings.antt).
+-- Tied: `any-listing` (crates/promises/proofs/BoardListings.antt).
 use Rattle.std.specs.Prelude.{List, ℕ, ltb, eqb, length}
 use Rattle.lists.specs.Choice.{pick}
 use Rattle.pens.specs.Outcomes.{Wrote, unwritten, written}

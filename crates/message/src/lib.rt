@@ -1,5 +1,6 @@
 // The record of one SIGMET. Where a form does not use a place, the place is zero and a choice takes its empty case.
 #![tactic(auto)]
+
 ghost use Rattle.std.specs.Prelude.{◌≡◌};
 ghost use Rattle.message.specs.Records.{good_heading, good_line, good_area, same_sequence, names_itself, good_cancellation, good_form, good};
 

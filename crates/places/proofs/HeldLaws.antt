@@ -11,7 +11,7 @@ use Rattle.words.proofs.Ranges.{between-low}
 use Rattle.figures.specs.Letters.{good_letters}
 use Rattle.headings.specs.Headings.{type_words, good_type}
 use Rattle.calendar.specs.Gregorian.{never}
-use Rattle.calendar.specs.Declared.{limit_of}
+use Rattle.calendar.specs.Meanings.{limit_of}
 use Rattle.places.specs.Padded.{held_sequence}
 use Rattle.places.specs.Places.{same_identity, no_identity, no_place, empty_place, held_identity, held_correction, held_place, good_place}
 use Rattle.places.specs.declared.Identity.{Identity}

@@ -10,7 +10,7 @@ use Rattle.lists.proofs.Choice.{by, both-false-right}
 use Rattle.figures.specs.Letters.{good_letters}
 use Rattle.headings.specs.Headings.{type_words, good_type}
 use Rattle.calendar.specs.Gregorian.{never}
-use Rattle.calendar.specs.Declared.{limit_of}
+use Rattle.calendar.specs.Meanings.{limit_of}
 use Rattle.places.specs.Padded.{held_sequence}
 use Rattle.places.specs.Places.{held_identity}
 use Rattle.places.specs.declared.Identity.{Identity}

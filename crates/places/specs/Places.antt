@@ -6,7 +6,7 @@ use Rattle.lists.specs.Choice.{both, either}
 use Rattle.figures.specs.Letters.{good_letters}
 use Rattle.headings.specs.Headings.{good_type, good_correction}
 use Rattle.calendar.specs.Gregorian.{never}
-use Rattle.calendar.specs.Declared.{limit_of}
+use Rattle.calendar.specs.Meanings.{limit_of}
 use Rattle.places.specs.Padded.{held_sequence}
 use Rattle.places.specs.declared.Identity.{Identity}
 use Rattle.places.specs.declared.Place.{Place}

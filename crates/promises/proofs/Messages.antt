@@ -15,7 +15,7 @@ use Rattle.message.specs.declared.Record.{Record}
 use Rattle.message.proofs.Goodness.{good-parts}
 use Rattle.calendar.specs.Gregorian.{never}
 use Rattle.calendar.specs.Instants.{end_of, target_of}
-use Rattle.calendar.specs.Declared.{IsStart, IsEnd}
+use Rattle.calendar.specs.Meanings.{IsStart, IsEnd}
 use Rattle.calendar.proofs.CalendarLaws.{start-found, start-bound, start-only, start_none, end-found, end-bound, end-complete, end-only, end_none, target_found, target-bound, target-complete, target_none}
 use Rattle.places.specs.Padded.{padded_of}
 use Rattle.places.specs.Places.{no_place}

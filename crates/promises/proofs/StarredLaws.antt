@@ -40,7 +40,7 @@ use Rattle.listing.specs.Answers.{listing_of, list_of}
 use Rattle.board.specs.declared.Board.{Board}
 use Rattle.places.specs.declared.Identity.{Identity}
 use Rattle.places.specs.declared.Place.{Place}
-use Rattle.calendar.specs.Declared.{IsStart, IsEnd, IsTarget}
+use Rattle.calendar.specs.Meanings.{IsStart, IsEnd, IsTarget}
 use Rattle.calendar.proofs.CalendarLaws.{start-found, start_none, end-found, target_found, case-leap-year, case-common-year, case-at-the-clock, case-at-the-limit}
 use Rattle.coordinates.proofs.Cases.{n00, s0000, s90, n9001}
 use Rattle.cases.proofs.Readings.{sample-read, sample-E180, sample-E181, sample-N9001, sample-FCST, sample-NC, sample-open, cancellation-read}

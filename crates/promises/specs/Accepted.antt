@@ -9,7 +9,7 @@ use Rattle.headings.specs.declared.Sequence.{Sequence}
 use Rattle.message.specs.Records.{good}
 use Rattle.message.specs.declared.Form.TheVariants.{Cancellation, Reported as report_form}
 use Rattle.message.specs.declared.Record.{Record}
-use Rattle.calendar.specs.Declared.{IsStart, IsEnd, IsTarget}
+use Rattle.calendar.specs.Meanings.{IsStart, IsEnd, IsTarget}
 use Rattle.places.specs.Padded.{padded_of}
 use Rattle.places.specs.declared.Identity.{Identity}
 use Rattle.promises.specs.Calls.{Call, History}

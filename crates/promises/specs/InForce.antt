@@ -42,7 +42,7 @@ pub record FullListing (shown : Place → Type 0) (time : ℕ) (buffer : List �
   pub leaves : after ≡ listing time rows ++ drop (length (listing time rows)) buffer
 
 -- "Listing: 36, 16, 17, then 14": by what it finds, that the board is not good, its clock, and what is shown at the time. This is said of a
--- history below, and of a board in specs/Any_board.antt.
+-- history below, and of a board in specs/AnyBoard.antt.
 abbrev pub ListNumber : Type 0 → ℕ → (Place → Type 0) → ℕ → List ℕ → ℕ → Type 0
 ListNumber bad clock shown time buffer =
     Refuses 36 bad (Refuses 16 (InRange time → ⊥) (Refuses 17 (time < clock) (Refuses 14 (NoRoomFor shown time buffer) Accepts)))

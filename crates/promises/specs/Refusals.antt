@@ -2,7 +2,7 @@
 -- a target; 20 end at or before the clock; 22 a report whose identity is marked; 21 a report held with the same or a later correction, or a
 -- cancellation whose target is marked; 23 a new place needed and all 64 in use after the dropping."
 -- The numbers in this order, each with its cause by what the post finds. What it finds is said of a history in specs/Answers.antt and of a board
--- in specs/Any_board.antt.
+-- in specs/AnyBoard.antt.
 -- Believed.
 use Rattle.std.specs.Prelude.{false, ◌≡◌, ℕ, ◌≤◌, ◌<◌}
 use Rattle.groups.specs.declared.Group.{Group}
@@ -10,7 +10,7 @@ use Rattle.headings.specs.declared.Sequence.{Sequence}
 use Rattle.message.specs.Records.{good}
 use Rattle.message.specs.declared.Form.TheVariants.{Test, Cancellation}
 use Rattle.message.specs.declared.Record.{Record}
-use Rattle.calendar.specs.Declared.{IsStart, IsEnd, IsTarget}
+use Rattle.calendar.specs.Meanings.{IsStart, IsEnd, IsTarget}
 use Rattle.places.specs.declared.Identity.{Identity}
 use Rattle.board.specs.Boards.{earliest_clock, latest_clock}
 use Rattle.promises.specs.Accepted.{IsReport, IsCancellation}

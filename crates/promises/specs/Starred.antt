@@ -13,7 +13,7 @@ use Rattle.grammar.specs.Bulletins.{acceptance, refusal}
 use Rattle.grammar.specs.Reads.{read_of}
 use Rattle.cases.specs.Samples.{reporting, later_saying, east_of, E180, cancelling}
 use Rattle.calendar.specs.Gregorian.{first_day}
-use Rattle.calendar.specs.Declared.{IsStart, IsEnd, IsTarget}
+use Rattle.calendar.specs.Meanings.{IsStart, IsEnd, IsTarget}
 use Rattle.board.specs.Boards.{empty_board}
 use Rattle.board.specs.Posts.{post_of}
 use Rattle.board.specs.declared.Board.{Board}

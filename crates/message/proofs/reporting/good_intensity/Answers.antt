@@ -1,0 +1,8 @@
+-- `reporting::good_intensity` meets its contract.
+use Rattle.motions.specs.Motions.{intensity_words}
+use borrow.Author.Rules.{rules}
+use Rattle.message.proofs.reporting.good_intensity.Goals as goal
+
+pub returns : goal.returns
+unfolding intensity_words
+returns c = c.both.ensures
