@@ -1,5 +1,6 @@
 // One place of a board, and what a message claims.
 #![tactic(auto)]
+
 mod claims;
 mod padding;
 mod places;

@@ -1,6 +1,7 @@
 // The sections of the writer: a good record is put onto a page as its canonical text. Each section of the text has a file here. A function of
 // it takes the page and the place where it begins, and answers with the place behind what it put.
 #![tactic(auto)]
+
 ghost use Rattle.std.specs.Prelude.{true, ◌≡◌};
 ghost use Rattle.message.specs.Records.{good};
 ghost use Rattle.message.specs.Words.{body_words, new_line, text_of};

@@ -1,0 +1,6 @@
+-- `identity_of` meets its contract.
+use borrow.Author.Rules.{rules}
+use Rattle.places.proofs.claims.identity_of.Goals as goal
+
+pub returns : goal.returns
+returns c = rw c.padded-sequence.ensures

@@ -1,0 +1,18 @@
+-- `put_bound` meets its contract: a latitude, a longitude or both; a side without a letter is none.
+use Rattle.figures.specs.Codes.{behind_one}
+use Rattle.coordinates.specs.Coordinates.{spell_coordinate}
+use Rattle.writer_sections.proofs.SectionLaws.{longitude-alone, latitude-alone, both-sides}
+use borrow.Author.Rules.{rules}
+use Rattle.writer_sections.proofs.location.put_bound.Goals as goal
+
+pub returns-then-b-eq0 : goal.returns-then-b-eq0
+unfolding spell_coordinate
+returns-then-b-eq0 c = search longitude-alone
+
+pub returns-then-b-eq0-2 : goal.returns-then-b-eq0-2
+unfolding spell_coordinate
+returns-then-b-eq0-2 c = search latitude-alone
+
+pub returns : goal.returns
+unfolding spell_coordinate behind_one
+returns c = search both-sides
