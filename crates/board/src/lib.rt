@@ -1,5 +1,6 @@
 // The board: 64 places of messages that have not ended, by value.
 #![tactic(auto)]
+
 ghost use Rattle.std.specs.Prelude.{◌≡◌};
 ghost use Rattle.board.specs.Boards.{good_board, empty_board, refusal_at};
 ghost use Rattle.board.specs.Posts.{settled, post_of};

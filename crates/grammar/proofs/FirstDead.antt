@@ -71,6 +71,7 @@ module _
         let n : Next s = next s (reached ws s e) in
         begins-by ws (n.word ∷ n.rest) n.message (leads-on ws s e n)
     alive-begins ws (done r) e a = begins-by ws [] r (rw (append-nil ws) e)
+    alive-begins ws dead e a = elim a [ ]
 
     -- with a word that kills the walk they begin no message, and with any other they do
     walk-one-more : (ws : List (List ℕ)) (w : List ℕ) → walk (start) (ws ++ (w ∷ [])) ≡ advance (walk (start) ws) w

@@ -185,15 +185,15 @@ part-taken (at_forecast_at l i) w = inl refl
 part-taken (at_forecast_time l i) w = inl refl
 part-taken (at_end r) w = inl refl
 
-optional-less : (s : State) (w : List ℕ) → Optional s w → mark s w ≤ number_of s
-optional-less (at_test o) w (longer-test e) = rw e (lit< tt)
-optional-less (at_ice o) w (freezing-rain e) = rw e (lit< tt)
-optional-less (at_observed p n) w (timed e) = rw e (lit< tt)
-optional-less (at_place (in_report o) (at_and latitude)) w (second-bound e) = rw e (lit< tt)
-optional-less (at_place (in_forecast l i) (at_and latitude)) w (second-bound e) = rw e (lit< tt)
+optional-less : {s : State} {w : List ℕ} → Optional s w → mark s w ≤ number_of s
+optional-less (longer-test e) = rw e (lit< tt)
+optional-less (freezing-rain e) = rw e (lit< tt)
+optional-less (timed e) = rw e (lit< tt)
+optional-less {s = at_place (in_report o) _} (second-bound e) = rw e (lit< tt)
+optional-less {s = at_place (in_forecast l i) _} (second-bound e) = rw e (lit< tt)
 
 pub mark-most : (s : State) (w : List ℕ) → mark s w ≤ number_of s
-mark-most s w = ⊎_elim (λ (e : mark s w ≡ number_of s). omega arith) (optional-less s w) (part-taken s w)
+mark-most s w = ⊎_elim (λ (e : mark s w ≡ number_of s). omega arith) optional-less (part-taken s w)
 
 -- the `=` ends a message or is refused
 abbrev pub Stops : Move → Type 0

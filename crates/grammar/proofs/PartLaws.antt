@@ -107,6 +107,7 @@ message-rises r =
     (part-rises 12 (lit≤ tt) (lit≤ tt) (equals_sign ∷ []))
 
 rises-all : {low high : ℕ} (x : Marked) (ms : List Marked) → Rises low ms high → Memᴰ x ms → low ≤ x.number
+rises-all x [] r m = elim m [ ]
 rises-all x (m ∷ ms) (rising h r) (Memᴰ.head e) = rw e h
 rises-all x (m ∷ ms) (rising h r) (Memᴰ.tail i) = le_trans h (rises-all x ms r i)
 

@@ -23,7 +23,7 @@ use Rattle.grammar.specs.Bulletins.{text_within}
 use Rattle.grammar.specs.Reads.{reply_of, read_of}
 use Rattle.grammar.specs.Replies.{Replied}
 use Rattle.grammar.specs.Replies.Replied.{unreadable, read_as, refused_with}
-use Rattle.grammar.specs.Runs.{walk, Ran, run_at}
+use Rattle.grammar.specs.Runs.{unfinished, walk, Ran, run_at}
 use Rattle.grammar.specs.Runs.Ran.{accepted, refused}
 use Rattle.grammar.specs.States.{State}
 use Rattle.grammar.specs.States.Move.{goes, done}
@@ -74,6 +74,7 @@ module _ (sound : (s : State) (w : List ℕ) → Ok s → Fine s w (step s w)) w
       ran-replied : (b : List ℕ) → (check_of b).number ≡ 0 → (x : Ran) → run_at at_designator (text_within b) 0 ≡ x → Settled at_designator (words_at (text_within b) 0) x
           → Replied b (reply_of (text_within b) x)
       ran-replied b c (accepted r) e k = read_as c (text-accepted (text_within b) r e).0 (text-accepted (text_within b) r e).1
+      ran-replied b c unfinished e k = elim k [ ]
       ran-replied b c (refused n p) e (breaks k) =
           let range : Range n = rw k.numbered (number-range k.state) in
           refused_with c range.low range.high (text-refused (text_within b) k)

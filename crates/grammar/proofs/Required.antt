@@ -112,18 +112,18 @@ module _ (sound : (s : State) (w : List ℕ) → Ok s → Fine s w (step s w)) w
   end-requires : (s : State) → Ok s → Requires s 12
   end-requires s ok = record { has = end-has s ok }
 
-  optional-meets : (s : State) (w : List ℕ) → Ok s → Optional s w → Meets s (number_of s) w (step s w)
+  optional-meets : {s : State} {w : List ℕ} → Ok s → Optional s w → Meets s (number_of s) w (step s w)
   unfolding step place_step test_texts
-  optional-meets (at_test o) w ok (longer-test e) = rw e (later (end-requires (at_test_text o 2 2) (ok, refl, lit< tt)))
-  optional-meets (at_ice o) w ok (freezing-rain e) = rw e (later (requires-now (at_observation _) 8 (λ v. refl)))
-  optional-meets (at_observed p n) w ok (timed e) = rw e (later (time-requires p n))
-  optional-meets (at_place (in_report o) (at_and latitude)) w ok (second-bound e) = rw e (later (bound-requires o latitude))
-  optional-meets (at_place (in_forecast l i) (at_and latitude)) w ok (second-bound e) =
+  optional-meets {s = at_test o} ok (longer-test e) = rw e (later (end-requires (at_test_text o 2 2) (ok, refl, lit< tt)))
+  optional-meets ok (freezing-rain e) = rw e (later (requires-now (at_observation _) 8 (λ v. refl)))
+  optional-meets {s = at_observed p n} ok (timed e) = rw e (later (time-requires p n))
+  optional-meets {s = at_place (in_report o) (at_and latitude)} ok (second-bound e) = rw e (later (bound-requires o latitude))
+  optional-meets {s = at_place (in_forecast l i) (at_and latitude)} ok (second-bound e) =
       rw e (later (end-requires (at_place (in_forecast l i) (at_second_bound latitude)) ok))
 
   -- every state requires the part of its number
   number-required : (s : State) → Ok s → Requires s (number_of s)
-  number-required s ok = requires s (number_of s) (λ w. ⊎_elim (λ (k : mark s w ≡ number_of s). now k) (optional-meets s w ok) (part-taken s w))
+  number-required s ok = requires s (number_of s) (λ w. ⊎_elim (λ (k : mark s w ≡ number_of s). now k) (optional-meets ok) (part-taken s w))
 
   module _
       (next : (s : State) → Ok s → Next s)

@@ -34,6 +34,7 @@ dead-done r e = let z : ◌≡◌ {A = ℕ} 0 1 = cc in omega arith
 pub dead_not : (m : Move) → m ≡ dead → Alive m → ⊥
 dead_not (goes s) e a = dead_goes s e
 dead_not (done r) e a = dead-done r e
+dead_not dead e a = elim a [ ]
 
 pub done-same : {q r : Record} → done q ≡ done r → q ≡ r
 done-same e = cc

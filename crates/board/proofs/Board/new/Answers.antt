@@ -1,0 +1,6 @@
+-- `new` meets its contract.
+use borrow.Author.Rules.{rules}
+use Rattle.board.proofs.Board.new.Goals as goal
+
+pub returns : goal.returns
+returns c = rw c.no_place-none.ensures
