@@ -6,14 +6,12 @@ use native.Mathlib.Omega.{arith}
 use lib.ListN.{length, drop}
 use Rattle.lists.specs.Lists.{all_of}
 use Rattle.lists.proofs.Lists.{all_past, all-stop, all_end}
+use Rattle.board.proofs.DistinctLaws.{apart}
 use Rattle.places.specs.Places.{no_place, same_identity}
 use Rattle.places.specs.declared.Identity.{Identity}
 use Rattle.places.specs.declared.Place.{Place}
 use borrow.Author.Rules.{rules}
 use Rattle.board.proofs.goodness.differ_from.Goals as goal
-
-abbrev apart : Identity → Place → Bool
-apart i q = not (same_identity i q.identity)
 
 pub loop-i-init : goal.loop-i-init
 loop-i-init c = (search rules, refl)

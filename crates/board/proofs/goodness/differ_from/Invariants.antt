@@ -6,6 +6,7 @@ use native.Mathlib.Omega.{arith}
 use lib.ListN.{length, drop}
 use Rattle.lists.specs.Lists.{all_of}
 use Rattle.lists.proofs.Lists.{all_past, all-stop, all_end}
+use Rattle.board.proofs.DistinctLaws.{apart}
 use Rattle.places.specs.Places.{no_place, same_identity}
 use Rattle.places.specs.declared.Identity.{Identity}
 use Rattle.places.specs.declared.Place.{Place}
