@@ -1,5 +1,6 @@
 // The listing: what is in force at a time, as records in a lent buffer.
 #![tactic(auto)]
+
 ghost use Rattle.std.specs.Prelude.{◌≡◌, ◌+◌, ◌*◌, ◌≤◌, length};
 ghost use Rattle.pens.specs.Outcomes.{wrote};
 ghost use Rattle.pens.specs.Pens.{Puts};

@@ -1,5 +1,6 @@
 // The reader: bytes to a reply.
 #![tactic(auto)]
+
 ghost use Rattle.std.specs.Prelude.{◌≡◌};
 ghost use Rattle.grammar.specs.Reads.{read_of};
 

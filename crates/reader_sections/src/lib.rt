@@ -2,6 +2,7 @@
 // paper's sentence, from one step (`steps`) to another, or to the reply (`replies`). A refused step stays, so that a section which leads to a step
 // needs no way out of its own. One that leads to the reply has one at the `=`; the others are for speed.
 #![tactic(auto)]
+
 ghost use Rattle.std.specs.Prelude.{◌≡◌};
 ghost use Rattle.grammar.specs.Reads.{reply_of};
 ghost use Rattle.grammar.specs.Runs.{run_at};
