@@ -60,13 +60,13 @@ fn compare(
     if is_right(reply, number, place, length, texts) {
         io::write_all(1, b" ok\n");
         return Tally {
-            right: std::num::wrapping_add_u64(tally.right, 1),
+            right: tally.right.wrapping_add(1),
             wrong: tally.wrong,
         };
     }
     Tally {
         right: tally.right,
-        wrong: std::num::wrapping_add_u64(tally.wrong, 1),
+        wrong: tally.wrong.wrapping_add(1),
     }
 }
 

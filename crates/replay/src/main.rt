@@ -1,6 +1,7 @@
 // Posts and lists by a script on standard input, and prints what each call answers: a program for tests. The script's grammar stands in
 // docs/REPLAY.md.
 #![tactic(auto)]
+
 ghost use Rattle.std.specs.Prelude.{◌≡◌, ◌≤◌, ◌<◌, length};
 
 mod calls;

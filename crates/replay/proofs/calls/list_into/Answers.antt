@@ -1,0 +1,20 @@
+-- `calls::list_into` tells no more than the buffer holds: the count lies within it.
+use mathlib.Core.Path.{ap}
+use Prim.Native.Nat.{◌≤◌}
+use native.Mathlib.Omega.{arith}
+use lib.ListN.{length}
+use Rattle.io.proofs.Counting.{length-take_of_le}
+use Rattle.pens.specs.Outcomes.{Wrote}
+use Rattle.listing.proofs.ListLaws.{within}
+use borrow.Author.Rules.{rules}
+use Rattle.replay.proofs.calls.list_into.Goals as goal
+use Rattle.replay.proofs.calls.list_into.Goals.{After-list-listed}
+
+counted : (c : After-list-listed) → c.list-listed.result.count ≤ length c.args.out.now
+counted c = omega (arith, ap (λ (t : Wrote). t.count) c.list-listed.ensures, within c.args.board c.args.time c.args.out.now)
+
+pub slice_bounds-tell_listed-end : goal.slice_bounds-tell_listed-end
+slice_bounds-tell_listed-end c = omega (arith, counted (goal.at.slice_bounds-tell_listed-end c).After-list-listed)
+
+pub slice_bounds-tell_listed-end-2 : goal.slice_bounds-tell_listed-end-2
+slice_bounds-tell_listed-end-2 c = length-take_of_le _ _ (omega (arith, counted (goal.at.slice_bounds-tell_listed-end-2 c).After-list-listed))

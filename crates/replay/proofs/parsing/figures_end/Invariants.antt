@@ -1,0 +1,15 @@
+-- `parsing::figures_end` meets its contract: the loop keeps what is still to be found.
+use Prim.Native.Nat.{◌-◌, ◌≤◌}
+use mathlib.Core.Path.{◌≡◌, refl}
+use native.Mathlib.Omega.{arith}
+use lib.ListN.{length}
+use Rattle.words.proofs.Walk.{walk-found, walk-past, walk_none}
+use Rattle.replay.specs.Numbers.{no_figure, figures_end}
+use borrow.Author.Rules.{rules}
+use Rattle.replay.proofs.parsing.figures_end.Given as goal
+
+abbrev pub invariant-loop-i : goal.invariant-loop-i
+invariant-loop-i l = (l.at ≤ l.i) × (l.i ≤ length l.script) × (figures_end l.script l.at ≡ figures_end l.script l.i)
+
+abbrev pub decreases-loop-i : goal.decreases-loop-i
+decreases-loop-i l = length l.script - l.i
