@@ -4,7 +4,7 @@ use mathlib.Core.Logic.{inl, inr}
 use mathlib.Core.Path.{◌≡◌, refl, sym, ◌∙◌}
 use Prim.Native.Char.{code}
 use Prim.Native.String.{String}
-use lib.IntN.{ℤ, pos, neg_ℤ}
+use lib.IntN.{pos, neg_ℤ}
 use Rattle.lists.specs.Lists.{all_of}
 use Rattle.lists.specs.Base.{worth_after}
 use Rattle.lists.specs.Text.{bytes}

@@ -22,7 +22,7 @@ use Rattle.grammar.specs.Runs.{walk}
 use Rattle.grammar.specs.States.{ToPhenomenon, ToObservation, Site, Placing, State, Move}
 use Rattle.grammar.specs.States.Site.{in_report, in_forecast}
 use Rattle.grammar.specs.States.Placing.{at_and, at_second_bound}
-use Rattle.grammar.specs.States.State.{at_test, at_test_text, at_ice, at_observation, at_observed, at_observed_time, at_place, at_level}
+use Rattle.grammar.specs.States.State.{at_test, at_test_text, at_observation, at_observed, at_observed_time, at_place, at_level}
 use Rattle.grammar.specs.States.Move.{goes, done, dead}
 use Rattle.grammar.specs.Steps.{goes_if, settled, step}
 use Rattle.grammar.proofs.FirstDead.{Rest, rest_of, reached, comes-going, numbers-one}

@@ -1,5 +1,6 @@
 // The reply of the reader, and a refusal. The grammar itself is a definition, in specs/: no code runs it.
 #![tactic(auto)]
+
 ghost use Rattle.std.specs.Prelude.{◌≡◌};
 ghost use Rattle.grammar.specs.Bulletins.{refusal as refusal_of};
 

@@ -8,7 +8,6 @@ use native.Mathlib.Omega.{arith}
 use lib.Dec.{ltb, eqb}
 use lib.ListN.{length, drop}
 use borrow.Author.Tests.{ltb-false, lt-ltb, le-ltb, eqb-true, eqb-false, eq-eqb, ne_eqb}
-use Rattle.lists.specs.Base.{places}
 use Rattle.lists.proofs.Choice.{by}
 use Rattle.places.specs.declared.Place.{Place}
 use Rattle.board.specs.Boards.{refusal_at}

@@ -1,6 +1,7 @@
 // Choice and list laws that every other crate cites: specs/ has the definitions, proofs/ the laws. The code is the two
 // connectives as functions, since the branches of `&&` and `||` would meet again in every proof that uses them.
 #![tactic(auto)]
+
 ghost use Rattle.std.specs.Prelude.{◌≡◌};
 ghost use Rattle.lists.specs.Choice.{both as both_of, either as either_of};
 

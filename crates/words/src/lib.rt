@@ -1,5 +1,6 @@
 // Bytes to words: refusal numbers 1 to 3 with place and length, and the word at a place of the text before `=`, with its length.
 #![tactic(auto)]
+
 ghost use Rattle.std.specs.Prelude.{◌≡◌};
 ghost use Rattle.words.specs.Bytes.{letter, digit};
 ghost use Rattle.words.specs.Check.{check_of};

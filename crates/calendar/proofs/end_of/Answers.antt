@@ -1,6 +1,5 @@
 -- `end_of` meets its contract: its stretch is the definition's own.
 use Rattle.calendar.specs.Instants.{end_of}
-use borrow.Author.Rules.{rules}
 use Rattle.calendar.proofs.end_of.Goals as goal
 
 pub returns : goal.returns

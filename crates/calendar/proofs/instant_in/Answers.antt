@@ -1,6 +1,5 @@
 -- `instant_in` meets its contract: the first of three days that has one, in the definition's order.
 use Rattle.calendar.proofs.DayLaws.{in-first, in-second, in-third}
-use borrow.Author.Rules.{rules}
 use Rattle.calendar.proofs.instant_in.Goals as goal
 
 pub returns-then-here-lt-NEVER : goal.returns-then-here-lt-NEVER

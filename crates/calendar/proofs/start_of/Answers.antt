@@ -1,6 +1,5 @@
 -- `start_of` meets its contract: its stretch is the definition's own.
 use Rattle.calendar.specs.Instants.{start_of}
-use borrow.Author.Rules.{rules}
 use Rattle.calendar.proofs.start_of.Goals as goal
 
 pub returns : goal.returns

@@ -1,6 +1,5 @@
 -- `target_of` meets its contract: its stretch is the definition's own.
 use Rattle.calendar.specs.Instants.{target_of}
-use borrow.Author.Rules.{rules}
 use Rattle.calendar.proofs.target_of.Goals as goal
 
 pub returns : goal.returns

@@ -1,6 +1,5 @@
 -- `empty_coordinate` meets its contract, test by test.
 use Rattle.coordinates.specs.Coordinates.{empty_coordinate}
-use borrow.Author.Rules.{rules}
 use Rattle.coordinates.proofs.empty_coordinate.Goals as goal
 
 pub returns : goal.returns

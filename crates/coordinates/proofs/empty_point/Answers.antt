@@ -1,6 +1,5 @@
 -- `empty_point` meets its contract, by those of its two coordinates.
 use Rattle.coordinates.specs.Points.{empty_point}
-use borrow.Author.Rules.{rules}
 use Rattle.coordinates.proofs.empty_point.Goals as goal
 
 pub returns : goal.returns

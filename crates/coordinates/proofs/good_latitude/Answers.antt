@@ -1,5 +1,4 @@
 -- `good_latitude` meets its contract, which is that of `axis::good` on its axis.
-use borrow.Author.Rules.{rules}
 use Rattle.coordinates.proofs.good_latitude.Goals as goal
 
 pub returns : goal.returns

@@ -1,6 +1,5 @@
 -- `good_point` meets its contract, by those of its two coordinates.
 use Rattle.coordinates.specs.Points.{good_point}
-use borrow.Author.Rules.{rules}
 use Rattle.coordinates.proofs.good_point.Goals as goal
 
 pub returns : goal.returns

@@ -1,5 +1,4 @@
 -- `latitude` meets its contract, which is that of `axis::coordinate` on its axis.
-use borrow.Author.Rules.{rules}
 use Rattle.coordinates.proofs.latitude.Goals as goal
 
 pub returns : goal.returns

@@ -1,5 +1,4 @@
 -- `longitude` meets its contract, which is that of `axis::coordinate` on its axis.
-use borrow.Author.Rules.{rules}
 use Rattle.coordinates.proofs.longitude.Goals as goal
 
 pub returns : goal.returns

@@ -1,5 +1,4 @@
 -- `same_latitude` meets its contract: the distance is `apart_by`'s.
-use borrow.Author.Rules.{rules}
 use Rattle.coordinates.proofs.same_latitude.Goals as goal
 
 pub returns : goal.returns

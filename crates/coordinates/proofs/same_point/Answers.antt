@@ -1,6 +1,5 @@
 -- `same_point` meets its contract, test by test; the distances are `apart_by`'s.
 use Rattle.coordinates.specs.Points.{same_point}
-use borrow.Author.Rules.{rules}
 use Rattle.coordinates.proofs.same_point.Goals as goal
 
 pub returns : goal.returns

@@ -2,7 +2,6 @@
 use Prim.Native.Nat.{◌+◌, ◌*◌}
 use native.Mathlib.Omega.{arith}
 use Rattle.coordinates.proofs.Minutes.{size_fits, signed-minus, signed-plus}
-use borrow.Author.Rules.{rules}
 use Rattle.coordinates.proofs.signed.Goals as goal
 
 pub overflow_sub-result : goal.overflow_sub-result

@@ -1,12 +1,8 @@
 -- `code` meets its contract: every byte fits its type, so the loop reads them all.
-use mathlib.Core.Path.{refl}
-use Prim.Native.Nat.{◌-◌, ◌<◌}
-use native.Mathlib.Omega.{arith}
-use lib.ListN.{length, get_or}
-use borrow.Author.Tests.{lt-ltb}
-use Rattle.figures.specs.Codes.{byte, code_of}
-use Rattle.figures.proofs.Reading.{Reading, begins, fits, goes, ends, too_long}
-use Rattle.figures.proofs.code.Reads as reads
+use Prim.Native.Nat.{◌-◌}
+use lib.ListN.{length}
+use Rattle.figures.specs.Codes.{byte}
+use Rattle.figures.proofs.Reading.{Reading}
 use Rattle.figures.proofs.code.Given as goal
 
 abbrev pub invariant-loop-i : goal.invariant-loop-i

@@ -1,18 +1,15 @@
 -- `letters` meets its contract: the loop keeps what the letters still to be read add to the number.
 use mathlib.Core.Bool.{true}
 use mathlib.Core.Path.{◌≡◌, refl, sym, ◌∙◌}
-use Prim.Native.Nat.{◌-◌, ◌<◌}
+use Prim.Native.Nat.{◌<◌}
 use native.Mathlib.Omega.{arith}
 use lib.ListN.{length, get_or}
-use borrow.Author.Tests.{le-leb, lt-leb, ne_eqb, not-true, not-false}
+use borrow.Author.Tests.{le-leb, lt-leb, ne_eqb}
 use Rattle.lists.specs.Base.{worth}
 use Rattle.words.specs.Bytes.{letter}
 use Rattle.figures.specs.Letters.{letters_of}
-use Rattle.figures.proofs.Reading.{Reading, begins, fits, goes, barred, passed, whole}
+use Rattle.figures.proofs.Reading.{begins, fits, goes, barred, passed, whole}
 use Rattle.figures.proofs.LetterLaws.{letter-small, letters-barred, letters-are}
-use Rattle.figures.proofs.letters.Reads as reads
-use Rattle.words.proofs.is_letter.Reads as is-letter-reads
-use borrow.Author.Rules.{rules}
 use Rattle.figures.proofs.letters.Goals as goal
 use Rattle.figures.proofs.letters.Goals.{Else-not-is_letter}
 

@@ -1,7 +1,6 @@
 -- `three` meets its contract: its two ways are the two ways of `capped`.
 use native.Mathlib.Omega.{arith}
 use Rattle.figures.proofs.FigureLaws.{capped-below, capped-past}
-use borrow.Author.Rules.{rules}
 use Rattle.figures.proofs.three.Goals as goal
 
 pub returns-then-n-lt1000 : goal.returns-then-n-lt1000

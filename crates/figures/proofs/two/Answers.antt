@@ -1,7 +1,6 @@
 -- `two` meets its contract: its two ways are the two ways of `capped`.
 use native.Mathlib.Omega.{arith}
 use Rattle.figures.proofs.FigureLaws.{capped-below, capped-past}
-use borrow.Author.Rules.{rules}
 use Rattle.figures.proofs.two.Goals as goal
 
 pub returns-then-n-lt100 : goal.returns-then-n-lt100

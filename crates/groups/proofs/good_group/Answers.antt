@@ -1,6 +1,5 @@
 -- `good_group` meets its contract: its tests are the definition's own.
 use Rattle.groups.specs.Groups.{good_group}
-use borrow.Author.Rules.{rules}
 use Rattle.groups.proofs.good_group.Goals as goal
 
 pub returns : goal.returns

@@ -1,6 +1,5 @@
 -- `good_period` meets its contract: it is the test of both groups.
 use Rattle.groups.specs.Groups.{good_period}
-use borrow.Author.Rules.{rules}
 use Rattle.groups.proofs.good_period.Goals as goal
 
 pub returns : goal.returns

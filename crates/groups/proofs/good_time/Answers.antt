@@ -1,6 +1,5 @@
 -- `good_time` meets its contract: it is the clock's test.
 use Rattle.groups.specs.Groups.{good_time}
-use borrow.Author.Rules.{rules}
 use Rattle.groups.proofs.good_time.Goals as goal
 
 pub returns : goal.returns

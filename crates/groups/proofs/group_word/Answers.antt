@@ -3,7 +3,6 @@ use borrow.Author.Tests.{eq-eqb, ne_eqb}
 use Rattle.groups.specs.Groups.{group_of, good_group, no_group}
 use Rattle.groups.proofs.GroupLaws.{group-made}
 use Rattle.figures.proofs.ReadsLaws.{untested, if-good-yes, if-good-no}
-use borrow.Author.Rules.{rules}
 use Rattle.groups.proofs.group_word.Goals as goal
 
 pub returns-then-w-ne6 : goal.returns-then-w-ne6

@@ -1,5 +1,4 @@
 -- `on_clock` meets its contract: it is the definition's own test.
-use borrow.Author.Rules.{rules}
 use Rattle.groups.proofs.on_clock.Goals as goal
 
 pub returns : goal.returns

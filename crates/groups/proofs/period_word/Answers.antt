@@ -6,7 +6,6 @@ use Rattle.lists.proofs.Choice.{both_true, both-false-left, both-false-right}
 use Rattle.groups.specs.Groups.{period_of, good_period, no_period}
 use Rattle.groups.proofs.GroupLaws.{period-made}
 use Rattle.figures.proofs.ReadsLaws.{untested, if-good-yes, if-good-no}
-use borrow.Author.Rules.{rules}
 use Rattle.groups.proofs.period_word.Goals as goal
 
 pub returns-then-w-ne13 : goal.returns-then-w-ne13

@@ -1,5 +1,4 @@
 -- `same_group` meets its contract: its tests are the definition's own.
-use borrow.Author.Rules.{rules}
 use Rattle.groups.proofs.same_group.Goals as goal
 
 pub returns : goal.returns

@@ -6,7 +6,6 @@ use Rattle.lists.proofs.Choice.{both_true, both-false-left, both-false-right}
 use Rattle.groups.specs.Groups.{time_of, good_time, no_time}
 use Rattle.groups.proofs.GroupLaws.{time-made}
 use Rattle.figures.proofs.ReadsLaws.{untested, if-good-yes, if-good-no}
-use borrow.Author.Rules.{rules}
 use Rattle.groups.proofs.time_word.Goals as goal
 
 pub returns-then-w-ne5 : goal.returns-then-w-ne5

@@ -7,7 +7,6 @@ use Rattle.headings.specs.Headings.{good_correction}
 use Rattle.headings.specs.Headings.{correction_of}
 use Rattle.figures.proofs.ReadsLaws.{if-good-yes, if-good-no}
 use Rattle.headings.proofs.HeadingLaws.{correction-passes}
-use borrow.Author.Rules.{rules}
 use Rattle.headings.proofs.correction_word.Goals as goal
 
 pub returns-then-w-ne3 : goal.returns-then-w-ne3

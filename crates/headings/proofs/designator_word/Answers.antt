@@ -6,7 +6,6 @@ use borrow.Author.Tests.{ne_eqb}
 use Rattle.headings.specs.Headings.{good_designator, no_designator}
 use Rattle.headings.specs.Headings.{designator_of}
 use Rattle.figures.proofs.ReadsLaws.{if-good-yes, if-good-no}
-use borrow.Author.Rules.{rules}
 use Rattle.headings.proofs.designator_word.Goals as goal
 
 pub returns-then-w-ne6 : goal.returns-then-w-ne6

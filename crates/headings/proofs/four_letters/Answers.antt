@@ -1,7 +1,6 @@
 -- `four_letters` meets its contract: every number of 32 bits has no more than four places.
 use native.Mathlib.Omega.{arith}
 use Rattle.headings.proofs.HeadingLaws.{four-good}
-use borrow.Author.Rules.{rules}
 use Rattle.headings.proofs.four_letters.Goals as goal
 
 pub returns : goal.returns

@@ -1,6 +1,5 @@
 -- `good_correction` meets its contract: it is the definition's own test.
 use Rattle.headings.specs.Headings.{good_correction}
-use borrow.Author.Rules.{rules}
 use Rattle.headings.proofs.good_correction.Goals as goal
 
 pub returns : goal.returns

@@ -1,6 +1,5 @@
 -- `good_designator` meets its contract: it is the definition's own test.
 use Rattle.headings.specs.Headings.{good_designator, type_words}
-use borrow.Author.Rules.{rules}
 use Rattle.headings.proofs.good_designator.Goals as goal
 
 pub returns : goal.returns

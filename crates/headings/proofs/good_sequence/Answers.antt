@@ -1,6 +1,5 @@
 -- `good_sequence` meets its contract: where the number of digits is out of range it is false both ways.
 use Rattle.headings.proofs.SequenceLaws.{sequence-good}
-use borrow.Author.Rules.{rules}
 use Rattle.headings.proofs.good_sequence.Goals as goal
 
 pub returns : goal.returns

@@ -6,7 +6,6 @@ use Rattle.lists.specs.Base.{worth_after}
 use Rattle.figures.specs.Codes.{code_of}
 use Rattle.headings.specs.Headings.{type_words}
 use Rattle.headings.proofs.HeadingLaws.{type_at, type-none}
-use borrow.Author.Rules.{rules}
 use Rattle.headings.proofs.kind_of.Goals as goal
 
 pub returns-then-c-eq-WS : goal.returns-then-c-eq-WS

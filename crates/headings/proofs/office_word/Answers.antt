@@ -3,7 +3,6 @@ use native.Mathlib.Omega.{arith}
 use lib.ListN.{length, get_or}
 use borrow.Author.Tests.{eq-eqb, ne_eqb}
 use Rattle.headings.specs.Headings.{office_of}
-use borrow.Author.Rules.{rules}
 use Rattle.headings.proofs.office_word.Goals as goal
 
 pub returns-then-w-ne5 : goal.returns-then-w-ne5

@@ -7,7 +7,6 @@ use Rattle.lists.proofs.Choice.{both_true}
 use Rattle.headings.specs.Sequences.{good_sequence, no_sequence, sequence_of}
 use Rattle.headings.proofs.SequenceLaws.{with-letter, without-letter}
 use Rattle.figures.proofs.ReadsLaws.{if-good-yes, if-good-no}
-use borrow.Author.Rules.{rules}
 use Rattle.headings.proofs.sequence_word.Goals as goal
 
 pub returns-then-length-lt1 : goal.returns-then-length-lt1

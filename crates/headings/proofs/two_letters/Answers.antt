@@ -1,6 +1,5 @@
 -- `two_letters` meets its contract: it tests the two places one by one.
 use Rattle.headings.proofs.HeadingLaws.{two_good}
-use borrow.Author.Rules.{rules}
 use Rattle.headings.proofs.two_letters.Goals as goal
 
 pub returns : goal.returns

@@ -7,7 +7,6 @@ use Rattle.lists.specs.Text.{bytes}
 use Rattle.figures.proofs.CodeLaws.{same-yes, same-no}
 use Rattle.levels.specs.Levels.{good_level_word}
 use Rattle.vocabulary.proofs.FixedWords.{fixed-fl}
-use borrow.Author.Rules.{rules}
 use Rattle.levels.proofs.band_nine.Goals as goal
 use Rattle.levels.proofs.band_nine.Goals.{Else-code-ne-FL}
 

@@ -1,15 +1,9 @@
 -- `empty_level` meets its contract: a level whose tag is not the first one's is not empty.
 use mathlib.Core.Bool.{false}
 use mathlib.Core.Path.{◌≡◌, refl, ap, sym}
-use mathlib.Core.List.{List, [], ◌∷◌}
-use Prim.Native.Nat.{ℕ}
-use types.Run.{OneOf, miss}
-use denote.Enum.Declared.{tag_of}
 use Rattle.levels.specs.declared.Level.{Level}
 use Rattle.levels.specs.declared.Level.TheVariants.{NoLevel, Flight, SurfaceFlight, SurfaceMetres, SurfaceFeet, Band, TopFlight, AboveFlight, TopAboveFlight}
 use Rattle.levels.specs.Levels.{empty_level}
-use Rattle.levels.specs.contracts.Level.{the_type}
-use borrow.Author.Rules.{rules}
 use Rattle.levels.proofs.empty_level.Goals as goal
 
 not-empty : (l : Level) → (l ≡ NoLevel → ⊥) → empty_level l ≡ false

@@ -6,7 +6,6 @@ use Rattle.lists.specs.Text.{bytes}
 use Rattle.figures.proofs.CodeLaws.{same-yes, same-no}
 use Rattle.levels.specs.Levels.{good_level_word}
 use Rattle.vocabulary.proofs.FixedWords.{fixed-fl}
-use borrow.Author.Rules.{rules}
 use Rattle.levels.proofs.five_bytes.Goals as goal
 use Rattle.levels.proofs.five_bytes.Goals.{Else-code-ne-FL}
 

@@ -1,5 +1,4 @@
 -- `good_band` meets its contract: it is the definition's own test.
-use borrow.Author.Rules.{rules}
 use Rattle.levels.proofs.good_band.Goals as goal
 
 pub returns : goal.returns

@@ -1,7 +1,6 @@
 -- `good_level` meets its contract: each form has the test of the definition.
 use mathlib.Core.Path.{ap, sym, ◌∙◌}
 use Rattle.levels.specs.Levels.{good_level, good_level_word}
-use borrow.Author.Rules.{rules}
 use Rattle.levels.proofs.good_level.Goals as goal
 
 pub returns-in-NoLevel : goal.returns-in-NoLevel

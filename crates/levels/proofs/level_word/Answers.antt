@@ -1,7 +1,6 @@
 -- `level_word` meets its contract: it goes by the length as the definition does.
 use borrow.Author.Tests.{eq-eqb, ne_eqb, le-leb, lt-leb}
 use Rattle.levels.specs.Levels.{level_of}
-use borrow.Author.Rules.{rules}
 use Rattle.levels.proofs.level_word.Goals as goal
 
 pub returns-then-n-eq5 : goal.returns-then-n-eq5

@@ -1,7 +1,6 @@
 -- `nine_bytes` meets its contract: its test is that of the definition.
 use Rattle.figures.proofs.CodeLaws.{same-yes, same-no}
 use Rattle.vocabulary.proofs.FixedWords.{fixed-surface}
-use borrow.Author.Rules.{rules}
 use Rattle.levels.proofs.nine_bytes.Goals as goal
 
 pub returns-then-code-eq-SURFACE : goal.returns-then-code-eq-SURFACE

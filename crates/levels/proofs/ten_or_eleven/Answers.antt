@@ -15,7 +15,6 @@ use Rattle.figures.specs.Codes.{code_of}
 use Rattle.figures.proofs.CodeLaws.{same-yes, same-no}
 use Rattle.levels.specs.Levels.{feet_figures}
 use Rattle.vocabulary.proofs.FixedWords.{fixed-ft, fixed-surface}
-use borrow.Author.Rules.{rules}
 use Rattle.levels.proofs.ten_or_eleven.Goals as goal
 use Rattle.levels.proofs.ten_or_eleven.Goals.{After-both, Else-code-ne-FT, Else-code-ne-SURFACE, Then-code-ne-FT}
 

@@ -1,6 +1,5 @@
 -- `list` meets its contract: one law for each reply, on the rows that were found.
 use Rattle.listing.proofs.ListLaws.{board-refused, no_room, all_listed}
-use borrow.Author.Rules.{rules}
 use Rattle.listing.proofs.list.Goals as goal
 
 pub returns-then-number-ne0 : goal.returns-then-number-ne0

@@ -1,13 +1,8 @@
 -- `put_listing` meets its contract: the records so far are on the page, and the next goes into the rest of it.
-use mathlib.Core.Path.{◌≡◌, refl, subst, ◌∙◌}
-use Prim.Native.Nat.{ℕ, ◌+◌, ◌-◌, ◌*◌, ◌≤◌}
-use native.Mathlib.Omega.{arith}
+use mathlib.Core.Path.{◌≡◌}
+use Prim.Native.Nat.{◌+◌, ◌-◌, ◌*◌, ◌≤◌}
 use lib.ListN.{length, take}
-use borrow.Rule.Slice.PartMut.{put_mid}
-use Rattle.lists.proofs.Sweeps.{length-mapped}
-use Rattle.listing.specs.Holding.{rows_in, PutsListing}
-use Rattle.listing.proofs.Loops.{lists-none, lists-more, lists-all, lists_at, lists-long}
-use borrow.Author.Rules.{rules}
+use Rattle.listing.specs.Holding.{PutsListing}
 use Rattle.listing.proofs.put_listing.Given as goal
 
 abbrev pub invariant-loop-i : goal.invariant-loop-i

@@ -1,7 +1,6 @@
 -- `put_record` meets its contract: the parts of the record, one behind the other.
 use Rattle.pens.proofs.PenLaws.{then, put-alike}
 use Rattle.listing.specs.Listings.{message_record}
-use borrow.Author.Rules.{rules}
 use Rattle.listing.proofs.put_record.Goals as goal
 
 pub returns : goal.returns

@@ -1,7 +1,6 @@
 -- `put_time` meets its contract: its kind, and the time behind it.
 use Rattle.pens.proofs.PenLaws.{then}
 use Rattle.listing.specs.Listings.{time_record}
-use borrow.Author.Rules.{rules}
 use Rattle.listing.proofs.put_time.Goals as goal
 
 pub returns : goal.returns

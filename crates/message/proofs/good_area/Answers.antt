@@ -1,7 +1,6 @@
 -- `good_area` meets its contract.
 use Rattle.names.specs.Names.{closing_words}
 use Rattle.message.specs.Records.{good_area}
-use borrow.Author.Rules.{rules}
 use Rattle.message.proofs.good_area.Goals as goal
 
 pub returns : goal.returns

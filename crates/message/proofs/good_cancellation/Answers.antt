@@ -1,5 +1,4 @@
 -- `good_cancellation` meets its contract.
-use borrow.Author.Rules.{rules}
 use Rattle.message.proofs.good_cancellation.Goals as goal
 
 pub returns : goal.returns

@@ -1,6 +1,5 @@
 -- `good_form` meets its contract.
 use Rattle.message.specs.Records.{good_form}
-use borrow.Author.Rules.{rules}
 use Rattle.message.proofs.good_form.Goals as goal
 
 pub returns-in-NoForm : goal.returns-in-NoForm

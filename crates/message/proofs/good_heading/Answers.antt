@@ -1,6 +1,5 @@
 -- `good_heading` meets its contract.
 use Rattle.message.specs.Records.{good_heading}
-use borrow.Author.Rules.{rules}
 use Rattle.message.proofs.good_heading.Goals as goal
 
 pub returns : goal.returns

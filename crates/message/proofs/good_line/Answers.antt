@@ -1,6 +1,5 @@
 -- `good_line` meets its contract.
 use Rattle.message.specs.Records.{good_line}
-use borrow.Author.Rules.{rules}
 use Rattle.message.proofs.good_line.Goals as goal
 
 pub returns : goal.returns

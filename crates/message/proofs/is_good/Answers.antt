@@ -1,6 +1,5 @@
 -- `is_good` meets its contract.
 use Rattle.message.specs.Records.{good}
-use borrow.Author.Rules.{rules}
 use Rattle.message.proofs.is_good.Goals as goal
 
 pub returns : goal.returns

@@ -1,6 +1,5 @@
 -- `names_itself` meets its contract.
 use Rattle.message.specs.Records.{names_itself}
-use borrow.Author.Rules.{rules}
 use Rattle.message.proofs.names_itself.Goals as goal
 
 pub returns : goal.returns

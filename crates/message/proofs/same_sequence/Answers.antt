@@ -1,5 +1,4 @@
 -- `same_sequence` meets its contract.
-use borrow.Author.Rules.{rules}
 use Rattle.message.proofs.same_sequence.Goals as goal
 
 pub returns : goal.returns

@@ -8,7 +8,6 @@ use Rattle.lists.proofs.Lists.{index-within}
 use Rattle.figures.specs.Codes.{code_of}
 use Rattle.motions.specs.Motions.{compass_words}
 use Rattle.motions.proofs.MotionLaws.{compass-found}
-use borrow.Author.Rules.{rules}
 use Rattle.motions.proofs.compass_word.Goals as goal
 
 pub overflow_cast-result : goal.overflow_cast-result

@@ -1,6 +1,5 @@
 -- `good_speed` meets its contract: it is the definition's own test.
 use Rattle.motions.specs.Speeds.{good_speed, unit_words}
-use borrow.Author.Rules.{rules}
 use Rattle.motions.proofs.good_speed.Goals as goal
 
 pub returns : goal.returns

@@ -6,7 +6,6 @@ use Rattle.lists.specs.Base.{worth_after}
 use Rattle.figures.specs.Codes.{code_of}
 use Rattle.motions.specs.Motions.{intensity_words}
 use Rattle.motions.proofs.MotionLaws.{intensity-at, intensity-none}
-use borrow.Author.Rules.{rules}
 use Rattle.motions.proofs.intensity_word.Goals as goal
 
 pub returns-then-c-eq-INTSF : goal.returns-then-c-eq-INTSF

@@ -5,7 +5,6 @@ use native.Mathlib.Omega.{arith}
 use Rattle.motions.specs.Speeds.{good_speed, no_speed, speed_of}
 use Rattle.motions.proofs.MotionLaws.{speed-short, speed-parts}
 use Rattle.figures.proofs.ReadsLaws.{if-good-yes, if-good-no}
-use borrow.Author.Rules.{rules}
 use Rattle.motions.proofs.speed_word.Goals as goal
 
 pub returns-then-w-lt2 : goal.returns-then-w-lt2

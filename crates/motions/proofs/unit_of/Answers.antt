@@ -6,7 +6,6 @@ use Rattle.lists.specs.Base.{worth_after}
 use Rattle.figures.specs.Codes.{code_of}
 use Rattle.motions.specs.Speeds.{unit_words}
 use Rattle.motions.proofs.MotionLaws.{unit-at, unit-none}
-use borrow.Author.Rules.{rules}
 use Rattle.motions.proofs.unit_of.Goals as goal
 
 pub returns-then-c-eq-KT : goal.returns-then-c-eq-KT

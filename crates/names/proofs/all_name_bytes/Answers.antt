@@ -1,13 +1,8 @@
 -- `all_name_bytes` meets its contract: the loop keeps what is still to be tested.
-use mathlib.Core.Path.{◌≡◌, refl, sym, ◌∙◌}
-use Prim.Native.Nat.{◌-◌}
+use mathlib.Core.Path.{sym, ◌∙◌}
 use native.Mathlib.Omega.{arith}
-use borrow.Author.Tests.{not-true, not-false}
-use lib.ListN.{length, drop}
-use Rattle.lists.specs.Lists.{all_of}
 use Rattle.lists.proofs.Lists.{all_past, all-stop, all_end}
 use Rattle.names.specs.Names.{name_byte}
-use borrow.Author.Rules.{rules}
 use Rattle.names.proofs.all_name_bytes.Goals as goal
 
 pub returns-then-not-either : goal.returns-then-not-either

@@ -1,13 +1,9 @@
 -- `all_name_bytes` meets its contract: the loop keeps what is still to be tested.
-use mathlib.Core.Path.{◌≡◌, refl, sym, ◌∙◌}
+use mathlib.Core.Path.{◌≡◌}
 use Prim.Native.Nat.{◌-◌}
-use native.Mathlib.Omega.{arith}
-use borrow.Author.Tests.{not-true, not-false}
 use lib.ListN.{length, drop}
 use Rattle.lists.specs.Lists.{all_of}
-use Rattle.lists.proofs.Lists.{all_past, all-stop, all_end}
 use Rattle.names.specs.Names.{name_byte}
-use borrow.Author.Rules.{rules}
 use Rattle.names.proofs.all_name_bytes.Given as goal
 
 abbrev pub invariant-loop-i : goal.invariant-loop-i

@@ -12,7 +12,6 @@ use Rattle.figures.specs.Codes.{code_of}
 use Rattle.figures.specs.Tables.{distinct}
 use Rattle.figures.proofs.TableLaws.{number_at, number-none}
 use Rattle.names.specs.Names.{closing_words}
-use borrow.Author.Rules.{rules}
 use Rattle.names.proofs.closing_word.Goals as goal
 
 pub returns-then-c-eq-FIR : goal.returns-then-c-eq-FIR

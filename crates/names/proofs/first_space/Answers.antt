@@ -1,11 +1,8 @@
 -- `first_space` meets its contract: the loop keeps what is still to be found.
-use mathlib.Core.Path.{◌≡◌, refl, sym, ◌∙◌}
-use Prim.Native.Nat.{◌-◌}
+use mathlib.Core.Path.{sym, ◌∙◌}
 use native.Mathlib.Omega.{arith}
 use lib.Dec.{eqb}
-use lib.ListN.{length}
 use borrow.Author.Tests.{eq-eqb, ne_eqb}
-use Rattle.lists.specs.Lists.{index_from}
 use Rattle.lists.proofs.Lists.{from-here, from_past, from-none}
 use Rattle.names.proofs.first_space.Goals as goal
 

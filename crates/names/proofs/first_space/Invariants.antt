@@ -1,12 +1,9 @@
 -- `first_space` meets its contract: the loop keeps what is still to be found.
-use mathlib.Core.Path.{◌≡◌, refl, sym, ◌∙◌}
+use mathlib.Core.Path.{◌≡◌}
 use Prim.Native.Nat.{◌-◌}
-use native.Mathlib.Omega.{arith}
 use lib.Dec.{eqb}
 use lib.ListN.{length}
-use borrow.Author.Tests.{eq-eqb, ne_eqb}
 use Rattle.lists.specs.Lists.{index_from}
-use Rattle.lists.proofs.Lists.{from-here, from_past, from-none}
 use Rattle.names.proofs.first_space.Given as goal
 
 abbrev pub invariant-loop-i : goal.invariant-loop-i

@@ -1,6 +1,5 @@
 -- `in_name` meets its contract: a code or a number tells a closing word.
 use Rattle.names.proofs.NameLaws.{area-word, mountain-word}
-use borrow.Author.Rules.{rules}
 use Rattle.names.proofs.in_name.Goals as goal
 
 pub returns-then-mountain : goal.returns-then-mountain

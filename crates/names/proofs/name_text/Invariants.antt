@@ -1,11 +1,7 @@
 -- `name_text` meets its contract: the loop keeps what is still to be tested.
-use mathlib.Core.Path.{sym, ◌∙◌}
 use Prim.Native.Nat.{◌-◌}
-use native.Mathlib.Omega.{arith}
-use borrow.Author.Tests.{not-true, not-false}
 use lib.ListN.{length}
-use Rattle.names.proofs.NameLaws.{Cut, cut-begins, cut-goes, cut-stops, cut-ends}
-use borrow.Author.Rules.{rules}
+use Rattle.names.proofs.NameLaws.{Cut}
 use Rattle.names.proofs.name_text.Given as goal
 
 abbrev pub invariant-loop-end : goal.invariant-loop-end

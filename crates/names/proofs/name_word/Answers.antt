@@ -4,7 +4,6 @@ use lib.ListN.{length}
 use borrow.Author.Tests.{le-ltb}
 use Rattle.names.specs.Names.{name_word}
 use Rattle.names.proofs.NameLaws.{word-tests}
-use borrow.Author.Rules.{rules}
 use Rattle.names.proofs.name_word.Goals as goal
 
 pub returns-then-length-eq0 : goal.returns-then-length-eq0

@@ -1,6 +1,5 @@
 -- `put` meets its contract: a byte with room goes in where the pen stands, and one without stays out.
 use Rattle.pens.proofs.PenLaws.{byte_put, byte-stopped}
-use borrow.Author.Rules.{rules}
 use Rattle.pens.proofs.put.Goals as goal
 
 pub returns-then-at-out : goal.returns-then-at-out

@@ -1,8 +1,6 @@
 -- `put_all` meets its contract: behind the bytes that were put so far comes the next.
-use mathlib.Core.Path.{◌≡◌, refl}
-use Prim.Native.Nat.{◌-◌, ◌≤◌, zero-le}
-use lib.ListN.{length, take}
-use Rattle.pens.specs.Pens.{Puts}
+use mathlib.Core.Path.{refl}
+use Prim.Native.Nat.{zero-le}
 use Rattle.pens.proofs.PenLaws.{nothing, one_more, all-put}
 use borrow.Author.Rules.{rules}
 use Rattle.pens.proofs.put_all.Goals as goal

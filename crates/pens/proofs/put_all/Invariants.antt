@@ -1,10 +1,8 @@
 -- `put_all` meets its contract: behind the bytes that were put so far comes the next.
-use mathlib.Core.Path.{◌≡◌, refl}
-use Prim.Native.Nat.{◌-◌, ◌≤◌, zero-le}
+use mathlib.Core.Path.{◌≡◌}
+use Prim.Native.Nat.{◌-◌, ◌≤◌}
 use lib.ListN.{length, take}
 use Rattle.pens.specs.Pens.{Puts}
-use Rattle.pens.proofs.PenLaws.{nothing, one_more, all-put}
-use borrow.Author.Rules.{rules}
 use Rattle.pens.proofs.put_all.Given as goal
 
 abbrev pub invariant-loop-i : goal.invariant-loop-i

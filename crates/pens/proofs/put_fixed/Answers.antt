@@ -1,6 +1,5 @@
 -- `put_fixed` meets its contract: the bytes go on from the space.
 use Rattle.pens.proofs.PenLaws.{a-space, goes_on}
-use borrow.Author.Rules.{rules}
 use Rattle.pens.proofs.put_fixed.Goals as goal
 
 pub returns : goal.returns

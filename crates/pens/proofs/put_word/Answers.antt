@@ -1,6 +1,5 @@
 -- `put_word` meets its contract: the word goes on from the space.
 use Rattle.pens.proofs.PenLaws.{a-space, goes_on}
-use borrow.Author.Rules.{rules}
 use Rattle.pens.proofs.put_word.Goals as goal
 
 pub returns : goal.returns

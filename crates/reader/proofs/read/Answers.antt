@@ -4,7 +4,6 @@ use borrow.Author.Tests.{eq-eqb, ne_eqb}
 use lib.Seq.{length-take-le}
 use Rattle.words.proofs.Refusals.{check-small}
 use Rattle.grammar.specs.Reads.{read_of}
-use borrow.Author.Rules.{rules}
 use Rattle.reader.proofs.read.Goals as goal
 
 pub returns-then-c-ne0 : goal.returns-then-c-ne0

@@ -1,8 +1,6 @@
 -- `run` comes to the end of the script: each command ends past where it begins.
 use Prim.Native.Nat.{◌-◌, ◌≤◌}
-use native.Mathlib.Omega.{arith}
 use lib.ListN.{length}
-use borrow.Author.Rules.{rules}
 use Rattle.replay.proofs.run.Given as goal
 
 abbrev pub invariant-loop-state : goal.invariant-loop-state

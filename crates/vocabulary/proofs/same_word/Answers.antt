@@ -1,8 +1,6 @@
 -- `same_word` meets its contract: the loop keeps what is still to be compared.
-use Prim.Native.Nat.{◌-◌}
 use native.Mathlib.Omega.{arith}
-use lib.ListN.{length}
-use Rattle.vocabulary.proofs.Sameness.{Alike, other_length, begins, goes_on, stops, ends}
+use Rattle.vocabulary.proofs.Sameness.{other_length, begins, goes_on, stops, ends}
 use Rattle.vocabulary.proofs.same_word.Goals as goal
 
 pub returns-then-w-k : goal.returns-then-w-k

@@ -1,8 +1,7 @@
 -- `same_word` meets its contract: the loop keeps what is still to be compared.
 use Prim.Native.Nat.{◌-◌}
-use native.Mathlib.Omega.{arith}
 use lib.ListN.{length}
-use Rattle.vocabulary.proofs.Sameness.{Alike, other_length, begins, goes_on, stops, ends}
+use Rattle.vocabulary.proofs.Sameness.{Alike}
 use Rattle.vocabulary.proofs.same_word.Given as goal
 
 abbrev pub invariant-loop-i : goal.invariant-loop-i

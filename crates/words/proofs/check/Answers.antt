@@ -3,7 +3,6 @@ use mathlib.Core.Path.{◌∙◌}
 use native.Mathlib.Omega.{arith}
 use Rattle.words.proofs.Refusals.{refused-empty, refused-long}
 use Rattle.words.proofs.SeenLaws.{all-checks}
-use borrow.Author.Rules.{rules}
 use Rattle.words.proofs.check.Goals as goal
 
 pub returns-then-length-eq0 : goal.returns-then-length-eq0

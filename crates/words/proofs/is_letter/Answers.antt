@@ -1,5 +1,4 @@
 -- `is_letter` meets its contract: it is the definition's own test.
-use borrow.Author.Rules.{rules}
 use Rattle.words.proofs.is_letter.Goals as goal
 
 pub returns : goal.returns

@@ -1,5 +1,4 @@
 -- `length_at` meets its contract: a word of the text has the bytes between its two places, and the `=` one.
-use Rattle.std.proofs.Common.{rules}
 use Rattle.words.proofs.NextWord.{length-ordered, length-equals, length-word}
 use Rattle.words.proofs.length_at.Goals as goal
 

@@ -1,6 +1,5 @@
 -- `word_at` meets its contract: its two walks are the two places of the definition.
 use Rattle.words.specs.Words.{span_of}
-use borrow.Author.Rules.{rules}
 use Rattle.words.proofs.word_at.Goals as goal
 
 pub returns : goal.returns

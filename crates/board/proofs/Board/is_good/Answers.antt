@@ -1,6 +1,5 @@
 -- `is_good` meets its contract.
 use Rattle.board.proofs.BoardLaws.{board-good}
-use borrow.Author.Rules.{rules}
 use Rattle.board.proofs.Board.is_good.Goals as goal
 
 pub returns : goal.returns

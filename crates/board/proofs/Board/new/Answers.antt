@@ -1,5 +1,4 @@
 -- `new` meets its contract.
-use borrow.Author.Rules.{rules}
 use Rattle.board.proofs.Board.new.Goals as goal
 
 pub returns : goal.returns

@@ -1,6 +1,5 @@
 -- `post` meets its contract.
 use Rattle.board.proofs.SettleLaws.{posts-not, claims-not, posts}
-use borrow.Author.Rules.{rules}
 use Rattle.board.proofs.Board.post.Goals as goal
 
 pub returns-then-number-ne0 : goal.returns-then-number-ne0

@@ -1,6 +1,5 @@
 -- `refusal_at` meets its contract.
 use Rattle.board.proofs.BoardLaws.{not_good, out_of_range, too-early, unrefused}
-use borrow.Author.Rules.{rules}
 use Rattle.board.proofs.Board.refusal_at.Goals as goal
 
 pub returns-then-not-is_good : goal.returns-then-not-is_good

@@ -1,7 +1,6 @@
 -- `settle` meets its contract.
 use native.Mathlib.Omega.{arith}
 use Rattle.board.proofs.SettleLaws.{settles-not, settles}
-use borrow.Author.Rules.{rules}
 use Rattle.board.proofs.Board.settle.Goals as goal
 
 pub returns-then-spot-ne0 : goal.returns-then-spot-ne0

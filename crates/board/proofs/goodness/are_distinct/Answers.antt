@@ -1,10 +1,6 @@
 -- `are_distinct` meets its contract.
-use mathlib.Core.Path.{◌≡◌, refl, sym, ◌∙◌}
-use Prim.Native.Nat.{◌-◌, ◌≤◌}
+use mathlib.Core.Path.{refl, sym, ◌∙◌}
 use native.Mathlib.Omega.{arith}
-use lib.ListN.{length, drop}
-use borrow.Author.Tests.{not-true, not-false}
-use Rattle.board.specs.Boards.{distinct}
 use Rattle.board.proofs.BoardLaws.{distinct-past, distinct-stop, distinct-end}
 use borrow.Author.Rules.{rules}
 use Rattle.board.proofs.goodness.are_distinct.Goals as goal

@@ -1,12 +1,8 @@
 -- `are_distinct` meets its contract.
-use mathlib.Core.Path.{◌≡◌, refl, sym, ◌∙◌}
+use mathlib.Core.Path.{◌≡◌}
 use Prim.Native.Nat.{◌-◌, ◌≤◌}
-use native.Mathlib.Omega.{arith}
 use lib.ListN.{length, drop}
-use borrow.Author.Tests.{not-true, not-false}
 use Rattle.board.specs.Boards.{distinct}
-use Rattle.board.proofs.BoardLaws.{distinct-past, distinct-stop, distinct-end}
-use borrow.Author.Rules.{rules}
 use Rattle.board.proofs.goodness.are_distinct.Given as goal
 
 abbrev pub invariant-loop-i : goal.invariant-loop-i

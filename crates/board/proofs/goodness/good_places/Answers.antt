@@ -1,12 +1,8 @@
 -- `good_places` meets its contract.
 use Rattle.places.specs.Places.{no_place, good_place}
 use Rattle.board.proofs.BoardLaws.{places-all}
-use mathlib.Core.Path.{◌≡◌, refl, sym, ◌∙◌}
-use Prim.Native.Nat.{◌-◌, ◌≤◌}
+use mathlib.Core.Path.{refl, sym, ◌∙◌}
 use native.Mathlib.Omega.{arith}
-use lib.ListN.{length, drop}
-use borrow.Author.Tests.{not-true, not-false}
-use Rattle.lists.specs.Lists.{all_of}
 use Rattle.lists.proofs.Lists.{all_past, all-stop, all_end}
 use borrow.Author.Rules.{rules}
 use Rattle.board.proofs.goodness.good_places.Goals as goal

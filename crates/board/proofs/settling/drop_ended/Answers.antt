@@ -1,9 +1,6 @@
 -- `drop_ended` meets its contract.
-use mathlib.Core.List.{◌++◌, map}
-use mathlib.Core.Path.{◌≡◌, refl, sym, ◌∙◌}
-use Prim.Native.Nat.{◌-◌, ◌≤◌}
+use mathlib.Core.Path.{refl, sym, ◌∙◌}
 use native.Mathlib.Omega.{arith}
-use lib.ListN.{length, drop, take}
 use Rattle.lists.proofs.Sweeps.{swept-one, swept_all}
 use Rattle.places.specs.Places.{no_place}
 use Rattle.board.specs.Posts.{kept, dropped}

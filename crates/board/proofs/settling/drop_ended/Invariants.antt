@@ -1,13 +1,9 @@
 -- `drop_ended` meets its contract.
 use mathlib.Core.List.{◌++◌, map}
-use mathlib.Core.Path.{◌≡◌, refl, sym, ◌∙◌}
+use mathlib.Core.Path.{◌≡◌}
 use Prim.Native.Nat.{◌-◌, ◌≤◌}
-use native.Mathlib.Omega.{arith}
 use lib.ListN.{length, drop, take}
-use Rattle.lists.proofs.Sweeps.{swept-one, swept_all}
-use Rattle.places.specs.Places.{no_place}
 use Rattle.board.specs.Posts.{kept, dropped}
-use borrow.Author.Rules.{rules}
 use Rattle.board.proofs.settling.drop_ended.Given as goal
 
 abbrev pub invariant-loop-i : goal.invariant-loop-i

@@ -1,13 +1,9 @@
 -- `find` meets its contract.
-use mathlib.Core.Path.{◌≡◌, sym, ◌∙◌}
+use mathlib.Core.Path.{◌≡◌}
 use Prim.Native.Nat.{◌-◌, ◌≤◌}
-use native.Mathlib.Omega.{arith}
 use lib.ListN.{length}
 use Rattle.lists.specs.Lists.{index_of, index_from}
-use Rattle.lists.proofs.Lists.{from-here, from_past, from-none, from_zero}
-use Rattle.places.specs.Places.{no_place}
 use Rattle.board.specs.Posts.{holds}
-use borrow.Author.Rules.{rules}
 use Rattle.board.proofs.settling.find.Given as goal
 
 abbrev pub invariant-loop-k : goal.invariant-loop-k

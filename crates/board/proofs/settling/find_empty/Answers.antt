@@ -1,9 +1,6 @@
 -- `find_empty` meets its contract.
-use mathlib.Core.Path.{◌≡◌, sym, ◌∙◌}
-use Prim.Native.Nat.{◌-◌, ◌≤◌}
+use mathlib.Core.Path.{sym, ◌∙◌}
 use native.Mathlib.Omega.{arith}
-use lib.ListN.{length}
-use Rattle.lists.specs.Lists.{index_of, index_from}
 use Rattle.lists.proofs.Lists.{from-here, from_past, from-none, from_zero}
 use Rattle.places.specs.Places.{no_place, empty_place}
 use borrow.Author.Rules.{rules}

@@ -1,12 +1,9 @@
 -- `find_empty` meets its contract.
-use mathlib.Core.Path.{◌≡◌, sym, ◌∙◌}
+use mathlib.Core.Path.{◌≡◌}
 use Prim.Native.Nat.{◌-◌, ◌≤◌}
-use native.Mathlib.Omega.{arith}
 use lib.ListN.{length}
 use Rattle.lists.specs.Lists.{index_of, index_from}
-use Rattle.lists.proofs.Lists.{from-here, from_past, from-none, from_zero}
-use Rattle.places.specs.Places.{no_place, empty_place}
-use borrow.Author.Rules.{rules}
+use Rattle.places.specs.Places.{empty_place}
 use Rattle.board.proofs.settling.find_empty.Given as goal
 
 abbrev pub invariant-loop-free : goal.invariant-loop-free

@@ -1,6 +1,5 @@
 -- `kept_at` meets its contract.
 use Rattle.board.proofs.SettleLaws.{drops, keeps}
-use borrow.Author.Rules.{rules}
 use Rattle.board.proofs.settling.kept_at.Goals as goal
 
 pub returns-then-p-clock : goal.returns-then-p-clock

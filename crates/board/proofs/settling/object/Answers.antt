@@ -1,6 +1,5 @@
 -- `object` meets its contract.
 use Rattle.board.proofs.SettleLaws.{objects-22, objects-21, corrects-not, objects-not}
-use borrow.Author.Rules.{rules}
 use Rattle.board.proofs.settling.object.Goals as goal
 
 pub returns-then-both : goal.returns-then-both

@@ -1,8 +1,7 @@
 -- `month_of` meets its contract: the day is from the first of `low` on and before the first of `high`, and the stretch between is halved.
 use mathlib.Core.Path.{◌≡◌}
-use Prim.Native.Nat.{suc, ◌-◌, ◌≤◌, ◌<◌}
+use Prim.Native.Nat.{suc}
 use native.Mathlib.Omega.{arith}
-use Rattle.calendar.specs.Gregorian.{first_day}
 use Rattle.calendar.proofs.MonthLaws.{first-zero}
 use Rattle.calendar.proofs.CenturyLaws.{first-last}
 use borrow.Author.Rules.{rules}

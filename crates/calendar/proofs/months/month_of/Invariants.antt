@@ -1,11 +1,6 @@
 -- `month_of` meets its contract: the day is from the first of `low` on and before the first of `high`, and the stretch between is halved.
-use mathlib.Core.Path.{◌≡◌}
-use Prim.Native.Nat.{suc, ◌-◌, ◌≤◌, ◌<◌}
-use native.Mathlib.Omega.{arith}
+use Prim.Native.Nat.{◌-◌, ◌≤◌, ◌<◌}
 use Rattle.calendar.specs.Gregorian.{first_day}
-use Rattle.calendar.proofs.MonthLaws.{first-zero}
-use Rattle.calendar.proofs.CenturyLaws.{first-last}
-use borrow.Author.Rules.{rules}
 use Rattle.calendar.proofs.months.month_of.Given as goal
 
 abbrev pub invariant-loop-high : goal.invariant-loop-high

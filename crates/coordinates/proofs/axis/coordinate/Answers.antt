@@ -1,7 +1,6 @@
 -- `coordinate` meets its contract: a law for each way out.
 use native.Mathlib.Omega.{arith}
 use Rattle.coordinates.proofs.Ways.{no_length, in-degrees, in-minutes}
-use borrow.Author.Rules.{rules}
 use Rattle.coordinates.proofs.axis.coordinate.Goals as goal
 
 pub returns-then-w-past : goal.returns-then-w-past

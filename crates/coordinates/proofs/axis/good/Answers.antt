@@ -1,6 +1,5 @@
 -- `good` meets its contract, by those of its two halves.
 use Rattle.coordinates.specs.Coordinates.{good_coordinate}
-use borrow.Author.Rules.{rules}
 use Rattle.coordinates.proofs.axis.good.Goals as goal
 
 pub returns : goal.returns

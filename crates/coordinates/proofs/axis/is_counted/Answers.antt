@@ -1,5 +1,4 @@
 -- `is_counted` meets its contract, test by test.
-use borrow.Author.Rules.{rules}
 use Rattle.coordinates.proofs.axis.is_counted.Goals as goal
 
 pub returns : goal.returns

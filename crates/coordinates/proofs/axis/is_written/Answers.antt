@@ -1,5 +1,4 @@
 -- `is_written` meets its contract, test by test.
-use borrow.Author.Rules.{rules}
 use Rattle.coordinates.proofs.axis.is_written.Goals as goal
 
 pub returns : goal.returns

@@ -1,5 +1,4 @@
 -- `keep` meets its contract: its two ways are those of `pick`.
-use borrow.Author.Rules.{rules}
 use Rattle.coordinates.proofs.axis.keep.Goals as goal
 
 pub returns-else-good : goal.returns-else-good

@@ -1,13 +1,9 @@
 -- `locating::closing_point` meets its contract.
-use Prim.Native.Nat.{◌-◌, ◌≤◌}
-use mathlib.Core.Path.{◌≡◌, refl, sym, ◌∙◌}
+use mathlib.Core.Path.{refl, sym, ◌∙◌}
 use native.Mathlib.Omega.{arith}
-use lib.ListN.{length, get_or}
-use Rattle.lists.specs.Lists.{index_from}
+use lib.ListN.{get_or}
 use Rattle.lists.proofs.Lists.{from-here, from_past, from-none}
 use Rattle.coordinates.specs.Points.{same_point, no_point}
-use Rattle.message.specs.Limits.{most_points}
-use Rattle.message.specs.Locations.{closing_point}
 use borrow.Author.Rules.{rules}
 use Rattle.message.proofs.locating.closing_point.Goals as goal
 

@@ -1,6 +1,5 @@
 -- `locating::empty_side` meets its contract.
 use Rattle.message.specs.Locations.{empty_side}
-use borrow.Author.Rules.{rules}
 use Rattle.message.proofs.locating.empty_side.Goals as goal
 
 pub returns : goal.returns

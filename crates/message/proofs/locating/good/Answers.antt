@@ -1,6 +1,5 @@
 -- `locating::good` meets its contract.
 use Rattle.message.specs.Locations.{good_extent}
-use borrow.Author.Rules.{rules}
 use Rattle.message.proofs.locating.good.Goals as goal
 
 pub returns-in-Nowhere : goal.returns-in-Nowhere

@@ -1,6 +1,5 @@
 -- `locating::good_bound` meets its contract.
 use Rattle.message.specs.Locations.{good_bound}
-use borrow.Author.Rules.{rules}
 use Rattle.message.proofs.locating.good_bound.Goals as goal
 
 pub returns-then-empty_side : goal.returns-then-empty_side

@@ -1,6 +1,5 @@
 -- `locating::good_latitude_side` meets its contract.
 use Rattle.message.specs.Locations.{good_side}
-use borrow.Author.Rules.{rules}
 use Rattle.message.proofs.locating.good_latitude_side.Goals as goal
 
 pub returns : goal.returns

@@ -1,17 +1,10 @@
 -- `locating::good_until` meets its contract.
-use mathlib.Core.List.{List}
-use Prim.Native.Nat.{ℕ, ◌-◌, ◌≤◌, ◌<◌}
-use mathlib.Core.Path.{◌≡◌, refl, sym, ◌∙◌}
-use native.Mathlib.Omega.{arith}
-use borrow.Author.Tests.{not-true, not-false}
-use lib.ListN.{length, take, drop, get_or}
-use lib.Seq.{length-take-le, get_or-take}
+use Prim.Native.Nat.{◌-◌, ◌≤◌}
+use mathlib.Core.Path.{◌≡◌}
+use lib.ListN.{length, take, drop}
 use Rattle.lists.specs.Lists.{all_of}
-use Rattle.lists.proofs.Lists.{all_past, all-stop, all_end}
-use Rattle.coordinates.specs.Points.{good_point, no_point}
-use Rattle.coordinates.specs.declared.Point.{Point}
+use Rattle.coordinates.specs.Points.{good_point}
 use Rattle.message.specs.Limits.{most_points}
-use borrow.Author.Rules.{rules}
 use Rattle.message.proofs.locating.good_until.Given as goal
 
 abbrev pub invariant-loop-i : goal.invariant-loop-i

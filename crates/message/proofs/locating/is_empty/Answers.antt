@@ -1,6 +1,5 @@
 -- `locating::is_empty` meets its contract.
 use Rattle.message.specs.Locations.{empty_extent}
-use borrow.Author.Rules.{rules}
 use Rattle.message.proofs.locating.is_empty.Goals as goal
 
 pub returns-in-Nowhere : goal.returns-in-Nowhere

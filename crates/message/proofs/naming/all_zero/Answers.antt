@@ -1,10 +1,7 @@
 -- `naming::all_zero` meets its contract.
-use Prim.Native.Nat.{◌-◌}
-use mathlib.Core.Path.{◌≡◌, refl, sym, ◌∙◌}
+use mathlib.Core.Path.{sym, ◌∙◌}
 use native.Mathlib.Omega.{arith}
 use borrow.Author.Tests.{eq-eqb, ne_eqb}
-use lib.ListN.{length, drop}
-use Rattle.lists.specs.Lists.{all_of}
 use Rattle.lists.proofs.Lists.{all_past, all-stop, all_end}
 use Rattle.message.specs.Names.{zero_byte}
 use Rattle.message.proofs.naming.all_zero.Goals as goal

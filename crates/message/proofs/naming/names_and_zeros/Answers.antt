@@ -4,7 +4,6 @@ use Prim.Native.Nat.{◌≤◌, ◌-◌}
 use native.Mathlib.Omega.{arith}
 use lib.ListN.{length, drop, length-drop}
 use lib.Seq.{length-take-le, take_all}
-use borrow.Author.Rules.{rules}
 use Rattle.message.proofs.naming.names_and_zeros.Goals as goal
 
 pub slice_bounds-name_text-end : goal.slice_bounds-name_text-end

@@ -1,6 +1,5 @@
 -- `reporting::empty_ending` meets its contract.
 use Rattle.message.specs.Reports.{empty_ending}
-use borrow.Author.Rules.{rules}
 use Rattle.message.proofs.reporting.empty_ending.Goals as goal
 
 pub returns-in-NoEnding : goal.returns-in-NoEnding

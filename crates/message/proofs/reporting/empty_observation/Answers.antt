@@ -1,6 +1,5 @@
 -- `reporting::empty_observation` meets its contract.
 use Rattle.message.specs.Reports.{empty_observation}
-use borrow.Author.Rules.{rules}
 use Rattle.message.proofs.reporting.empty_observation.Goals as goal
 
 pub returns-then-o : goal.returns-then-o

@@ -1,6 +1,5 @@
 -- `reporting::empty_volcano` meets its contract.
 use Rattle.message.specs.Reports.{empty_volcano}
-use borrow.Author.Rules.{rules}
 use Rattle.message.proofs.reporting.empty_volcano.Goals as goal
 
 pub returns : goal.returns

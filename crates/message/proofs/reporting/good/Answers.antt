@@ -1,6 +1,5 @@
 -- `reporting::good` meets its contract.
 use Rattle.message.specs.Reports.{good_report}
-use borrow.Author.Rules.{rules}
 use Rattle.message.proofs.reporting.good.Goals as goal
 
 pub returns : goal.returns

@@ -1,7 +1,6 @@
 -- `reporting::good_ending` meets its contract.
 use Rattle.motions.specs.Motions.{compass_words}
 use Rattle.message.specs.Reports.{good_ending}
-use borrow.Author.Rules.{rules}
 use Rattle.message.proofs.reporting.good_ending.Goals as goal
 
 pub returns-in-NoEnding : goal.returns-in-NoEnding

@@ -1,6 +1,5 @@
 -- `reporting::good_intensity` meets its contract.
 use Rattle.motions.specs.Motions.{intensity_words}
-use borrow.Author.Rules.{rules}
 use Rattle.message.proofs.reporting.good_intensity.Goals as goal
 
 pub returns : goal.returns

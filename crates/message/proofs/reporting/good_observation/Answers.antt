@@ -1,6 +1,5 @@
 -- `reporting::good_observation` meets its contract.
 use Rattle.message.specs.Reports.{good_observation}
-use borrow.Author.Rules.{rules}
 use Rattle.message.proofs.reporting.good_observation.Goals as goal
 
 pub returns-then-o : goal.returns-then-o

@@ -1,6 +1,5 @@
 -- `reporting::good_phenomenon` meets its contract.
 use Rattle.message.specs.Reports.{good_phenomenon}
-use borrow.Author.Rules.{rules}
 use Rattle.message.proofs.reporting.good_phenomenon.Goals as goal
 
 pub returns : goal.returns

@@ -1,6 +1,5 @@
 -- `reporting::good_volcano` meets its contract.
 use Rattle.message.specs.Reports.{good_volcano}
-use borrow.Author.Rules.{rules}
 use Rattle.message.proofs.reporting.good_volcano.Goals as goal
 
 pub returns : goal.returns

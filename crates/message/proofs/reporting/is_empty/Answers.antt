@@ -1,6 +1,5 @@
 -- `reporting::is_empty` meets its contract.
 use Rattle.message.specs.Reports.{empty_report}
-use borrow.Author.Rules.{rules}
 use Rattle.message.proofs.reporting.is_empty.Goals as goal
 
 pub returns : goal.returns

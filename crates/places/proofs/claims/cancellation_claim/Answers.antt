@@ -1,6 +1,5 @@
 -- `cancellation_claim` meets its contract.
 use Rattle.places.proofs.ClaimReturns.{untargeted, targeted}
-use borrow.Author.Rules.{rules}
 use Rattle.places.proofs.claims.cancellation_claim.Goals as goal
 
 pub returns-then-target-eq-NEVER : goal.returns-then-target-eq-NEVER

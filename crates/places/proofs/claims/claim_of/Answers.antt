@@ -1,6 +1,5 @@
 -- `claim_of` meets its contract.
 use Rattle.places.proofs.ClaimReturns.{bad-record, a_test, no_start, no_end, a-claim, good-known}
-use borrow.Author.Rules.{rules}
 use Rattle.places.proofs.claims.claim_of.Goals as goal
 
 pub returns-then-not-is_good : goal.returns-then-not-is_good

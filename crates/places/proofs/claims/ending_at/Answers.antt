@@ -1,6 +1,5 @@
 -- `ending_at` meets its contract.
 use Rattle.places.proofs.ClaimReturns.{ended, unended}
-use borrow.Author.Rules.{rules}
 use Rattle.places.proofs.claims.ending_at.Goals as goal
 
 pub returns-then-end-clock : goal.returns-then-end-clock

@@ -1,5 +1,4 @@
 -- `identity_of` meets its contract.
-use borrow.Author.Rules.{rules}
 use Rattle.places.proofs.claims.identity_of.Goals as goal
 
 pub returns : goal.returns

@@ -1,6 +1,5 @@
 -- `report_claim` meets its contract.
 use Rattle.places.proofs.ClaimReturns.{reports}
-use borrow.Author.Rules.{rules}
 use Rattle.places.proofs.claims.report_claim.Goals as goal
 
 pub returns : goal.returns

@@ -1,6 +1,5 @@
 -- `timed_claim` meets its contract.
 use Rattle.places.proofs.ClaimReturns.{timed-none, timed-test, timed-cancels, timed-reports, named-good, own-good}
-use borrow.Author.Rules.{rules}
 use Rattle.places.proofs.claims.timed_claim.Goals as goal
 
 pub cancellation_claim-requires : goal.cancellation_claim-requires

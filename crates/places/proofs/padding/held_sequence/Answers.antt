@@ -1,7 +1,6 @@
 -- `held_sequence` meets its contract.
 use mathlib.Core.Path.{sym, ◌∙◌}
 use Rattle.places.proofs.PaddedLaws.{held-good, held-bad}
-use borrow.Author.Rules.{rules}
 use Rattle.places.proofs.padding.held_sequence.Goals as goal
 
 pub padded-requires : goal.padded-requires

@@ -1,6 +1,5 @@
 -- `padded` meets its contract.
 use Rattle.places.proofs.PaddedLaws.{bare-one, bare-two, bare-three, lettered-one, lettered-two}
-use borrow.Author.Rules.{rules}
 use Rattle.places.proofs.padding.padded.Goals as goal
 
 pub returns-then-s-eq1 : goal.returns-then-s-eq1

@@ -8,7 +8,6 @@ use lib.Seq.{length-take-le}
 use Rattle.lists.proofs.Lists.{index-within}
 use Rattle.headings.specs.Sequences.{sequence_of}
 use Rattle.places.proofs.PaddedLaws.{unpads}
-use borrow.Author.Rules.{rules}
 use Rattle.places.proofs.padding.unpad.Goals as goal
 
 pub slice_bounds-text-end : goal.slice_bounds-text-end

@@ -1,6 +1,5 @@
 -- `empty_place` meets its contract.
 use Rattle.places.specs.Places.{empty_place}
-use borrow.Author.Rules.{rules}
 use Rattle.places.proofs.places.empty_place.Goals as goal
 
 pub returns : goal.returns

@@ -1,6 +1,5 @@
 -- `good_place` meets its contract.
 use Rattle.places.specs.Places.{good_place, held_place}
-use borrow.Author.Rules.{rules}
 use Rattle.places.proofs.places.good_place.Goals as goal
 
 pub returns : goal.returns

@@ -1,6 +1,5 @@
 -- `held_correction` meets its contract.
 use Rattle.places.specs.Places.{held_correction}
-use borrow.Author.Rules.{rules}
 use Rattle.places.proofs.places.held_correction.Goals as goal
 
 pub returns : goal.returns

@@ -1,6 +1,5 @@
 -- `held_identity` meets its contract.
 use Rattle.places.proofs.PlaceLaws.{ends-early, held-identity}
-use borrow.Author.Rules.{rules}
 use Rattle.places.proofs.places.held_identity.Goals as goal
 
 pub returns-then-i : goal.returns-then-i

@@ -1,5 +1,4 @@
 -- `no_place` meets its contract.
-use borrow.Author.Rules.{rules}
 use Rattle.places.proofs.places.no_place.Goals as goal
 
 pub returns : goal.returns

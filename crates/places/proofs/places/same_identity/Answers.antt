@@ -1,6 +1,5 @@
 -- `same_identity` meets its contract.
 use Rattle.places.specs.Places.{same_identity}
-use borrow.Author.Rules.{rules}
 use Rattle.places.proofs.places.same_identity.Goals as goal
 
 pub returns : goal.returns

@@ -16,7 +16,6 @@ use Rattle.reader_sections.specs.Names.{NameSays}
 use Rattle.reader_sections.specs.Steps.{Takes}
 use Rattle.reader_sections.proofs.Leads.{then}
 use Rattle.reader_sections.proofs.NameText.{area_closed, area-takes, name-closed}
-use borrow.Author.Rules.{rules}
 use Rattle.reader_sections.proofs.area.read_area.Goals as goal
 
 area : {t : List ℕ} {from named closed to : Step} {i k : ℕ} {n : Name} → Takes (letters_of 4) (good_letters 4) 6 t from named i → NameSays false name_bytes 6 t named closed n

@@ -12,7 +12,6 @@ use Rattle.reader_sections.specs.declared.steps.Step.{Step}
 use Rattle.reader_sections.specs.Forms.{CancellationSays}
 use Rattle.reader_sections.specs.Steps.{Replies}
 use Rattle.reader_sections.proofs.Leads.{replies-on}
-use borrow.Author.Rules.{rules}
 use Rattle.reader_sections.proofs.body.cancellation_body.Goals as goal
 
 ended : {t : List ℕ} {from to : Step} {o : ToArea} {s : Sequence} {since : Group} {r : Reply} → CancellationSays o.line t from to s since

@@ -9,7 +9,6 @@ use Rattle.reader_sections.specs.declared.steps.Step.{Step}
 use Rattle.reader_sections.specs.Forms.{LongTestSays}
 use Rattle.reader_sections.specs.Steps.{Replies}
 use Rattle.reader_sections.proofs.Leads.{replies-on}
-use borrow.Author.Rules.{rules}
 use Rattle.reader_sections.proofs.body.long_test_body.Goals as goal
 
 ended : {t : List ℕ} {from to : Step} {o : ToArea} {r : Reply} → LongTestSays t from to → Replies (at_end (test_of o 3)) t to r → Replies (at_test_text o 3 1) t from r

@@ -14,7 +14,6 @@ use Rattle.reader_sections.specs.Reports.{ReportSays}
 use Rattle.reader_sections.specs.Steps.{Stands, Before, Replies}
 use Rattle.reader_sections.proofs.NextCode.{code_at, takes-code}
 use Rattle.reader_sections.proofs.Leads.{replies-on, code-no}
-use borrow.Author.Rules.{rules}
 use Rattle.reader_sections.proofs.body.read_body.Goals as goal
 
 module _ {code : ℕ} {t : List ℕ} {from : Step} {o : Opening} {r : Reply} (f : Stands t from) (e : code ≡ code_at t from) where

@@ -9,7 +9,6 @@ use Rattle.reader_sections.specs.declared.steps.Step.{Step}
 use Rattle.reader_sections.specs.Forms.{TestSays}
 use Rattle.reader_sections.specs.Steps.{Replies}
 use Rattle.reader_sections.proofs.Leads.{replies-on}
-use borrow.Author.Rules.{rules}
 use Rattle.reader_sections.proofs.body.test_body.Goals as goal
 
 ended : {t : List ℕ} {from to : Step} {o : ToArea} {n : ℕ} {r : Reply} → TestSays t from to n → Replies (at_end (test_of o n)) t to r → Replies (at_test o) t from r

@@ -16,7 +16,6 @@ use Rattle.reader_sections.specs.declared.steps.Step.{Step}
 use Rattle.reader_sections.specs.Forms.{CancellationSays}
 use Rattle.reader_sections.specs.Steps.{Takes, TakesFixed}
 use Rattle.reader_sections.proofs.Leads.{then}
-use borrow.Author.Rules.{rules}
 use Rattle.reader_sections.proofs.cancellation.read_cancellation.Goals as goal
 
 cancelled : {t : List ℕ} {from a b to : Step} {line : FirstLine} {s : Sequence} {p : Period} → TakesFixed code-sigmet 7 t from a

@@ -16,7 +16,6 @@ use Rattle.reader_sections.specs.Endings.{forecast_time, ForecastWordsSays}
 use Rattle.reader_sections.specs.Steps.{Takes, TakesFixed}
 use Rattle.reader_sections.proofs.FirstWords.{time-judged}
 use Rattle.reader_sections.proofs.Leads.{then}
-use borrow.Author.Rules.{rules}
 use Rattle.reader_sections.proofs.ending.forecast_words_at.Goals as goal
 
 forecast : {t : List ℕ} {from a b c to : Step} {i : ℕ} {u end : Time} → Takes intensity_of good_intensity 11 t from a i → TakesFixed code-fcst 11 t a b

@@ -14,7 +14,6 @@ use Rattle.reader_sections.specs.declared.steps.Step.{Step}
 use Rattle.reader_sections.specs.Endings.{MovingSays}
 use Rattle.reader_sections.specs.Steps.{Takes}
 use Rattle.reader_sections.proofs.Leads.{then}
-use borrow.Author.Rules.{rules}
 use Rattle.reader_sections.proofs.ending.read_moving.Goals as goal
 
 moving : {t : List ℕ} {from a b to : Step} {d i : ℕ} {v : Speed} → Takes compass_of good_compass 11 t from a d → Takes speed_of good_speed 11 t a b v

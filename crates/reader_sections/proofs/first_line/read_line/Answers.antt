@@ -16,7 +16,6 @@ use Rattle.reader_sections.specs.declared.steps.Step.{Step}
 use Rattle.reader_sections.specs.Openings.{LineSays}
 use Rattle.reader_sections.specs.Steps.{Takes, TakesFixed}
 use Rattle.reader_sections.proofs.Leads.{then}
-use borrow.Author.Rules.{rules}
 use Rattle.reader_sections.proofs.first_line.read_line.Goals as goal
 
 line : {t : List ℕ} {from a b c d e to : Step} {u o : ℕ} {s : Sequence} {p : Period} → Takes (letters_of 4) (good_letters 4) 5 t from a u → TakesFixed code-sigmet 5 t a b

@@ -13,7 +13,6 @@ use Rattle.reader_sections.specs.declared.steps.Step.{Step}
 use Rattle.reader_sections.specs.Openings.{CorrectionSays, HeadingSays}
 use Rattle.reader_sections.specs.Steps.{Takes}
 use Rattle.reader_sections.proofs.Leads.{then}
-use borrow.Author.Rules.{rules}
 use Rattle.reader_sections.proofs.heading.read_heading.Goals as goal
 
 heading : {t : List ℕ} {from a b c to : Step} {d : Designator} {n k : ℕ} {g : Group} → Takes designator_of good_designator 4 t from a d → Takes (letters_of 4) (good_letters 4) 4 t a b n

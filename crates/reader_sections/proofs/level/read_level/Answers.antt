@@ -2,7 +2,6 @@
 use mathlib.Core.List.{List}
 use mathlib.Core.Path.{◌≡◌, refl}
 use Prim.Native.Nat.{ℕ}
-use Rattle.lists.specs.Lists.{part}
 use Rattle.figures.specs.Codes.{code_of}
 use Rattle.vocabulary.specs.Codes.{code-abv, code-top}
 use Rattle.vocabulary.proofs.FixedWords.{fixed-top, fixed-abv}

@@ -15,7 +15,8 @@ returns c =
     let named = c.if-closing-eq-CLOSED_BY_CTA in
     let closing = c.args.closing in
     let word : FixedWord (entire_word closing) named.name =
-    elim named.branch
-    [ then-closing-eq-CLOSED_BY_CTA w ↦ rw w.name-is (entire-cta closing w.if-closing-eq-CLOSED_BY_CTA.true)
-    | else-closing-eq-CLOSED_BY_CTA w ↦ rw w.name-is (entire-fir closing w.if-closing-eq-CLOSED_BY_CTA.false) ] in
+    elim named.branch [
+      | then-closing-eq-CLOSED_BY_CTA w ↦ rw w.name-is (entire-cta closing w.if-closing-eq-CLOSED_BY_CTA.true)
+      | else-closing-eq-CLOSED_BY_CTA w ↦ rw w.name-is (entire-fir closing w.if-closing-eq-CLOSED_BY_CTA.false)
+    ] in
     record { says = λ site q n. fixed-there c.fixed_at-step.ensures word site at_entire n entirely (λ z. rw q); stands = search rules }

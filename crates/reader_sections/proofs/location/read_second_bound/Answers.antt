@@ -5,7 +5,6 @@ use mathlib.Core.Path.{◌≡◌, sym}
 use Prim.Native.Nat.{ℕ}
 use lib.Dec.{eqb, lit<}
 use borrow.Author.Tests.{not-true, not-false}
-use Rattle.lists.specs.Lists.{part}
 use Rattle.figures.specs.Codes.{code_of}
 use Rattle.vocabulary.specs.Codes.{code-and}
 use Rattle.vocabulary.proofs.FixedWords.{fixed-and}

@@ -1,8 +1,5 @@
 -- `put_word` meets its contract: after i turns the word's first i bytes are in.
-use Prim.Native.Nat.{◌-◌}
-use native.Mathlib.Omega.{arith}
-use lib.ListN.{length}
-use Rattle.reader_sections.proofs.NameBytes.{PutSoFar, put-none, put-more, put_all}
+use Rattle.reader_sections.proofs.NameBytes.{put-none, put-more, put_all}
 use borrow.Author.Rules.{rules}
 use Rattle.reader_sections.proofs.name.put_word.Goals as goal
 

@@ -1,9 +1,7 @@
 -- `put_word` meets its contract: after i turns the word's first i bytes are in.
 use Prim.Native.Nat.{◌-◌}
-use native.Mathlib.Omega.{arith}
 use lib.ListN.{length}
-use Rattle.reader_sections.proofs.NameBytes.{PutSoFar, put-none, put-more, put_all}
-use borrow.Author.Rules.{rules}
+use Rattle.reader_sections.proofs.NameBytes.{PutSoFar}
 use Rattle.reader_sections.proofs.name.put_word.Given as goal
 
 abbrev pub invariant-loop-i : goal.invariant-loop-i

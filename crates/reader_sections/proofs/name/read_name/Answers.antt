@@ -1,7 +1,6 @@
 -- `read_name` meets its contract: each turn the words so far are the name, and the next one goes behind them or ends it.
-use Prim.Native.Nat.{◌-◌}
 use native.Mathlib.Omega.{arith}
-use Rattle.reader_sections.proofs.NameText.{with-room, with-bytes, less-room, NamedOn, name-begun, name-grown, name-read}
+use Rattle.reader_sections.proofs.NameText.{with-room, with-bytes, less-room, name-begun, name-grown, name-read}
 use borrow.Author.Rules.{rules}
 use Rattle.reader_sections.proofs.name.read_name.Goals as goal
 

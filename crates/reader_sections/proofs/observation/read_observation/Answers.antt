@@ -13,7 +13,6 @@ use Rattle.reader_sections.specs.Reports.{ObservedSays, ObservationSays}
 use Rattle.reader_sections.specs.Steps.{Stands, Before, Judged}
 use Rattle.reader_sections.proofs.NextCode.{code_at, takes-code}
 use Rattle.reader_sections.proofs.Leads.{then, code-no, takes-fixed}
-use borrow.Author.Rules.{rules}
 use Rattle.reader_sections.proofs.observation.read_observation.Goals as goal
 
 module _ {t : List ℕ} {from a to : Step} {code : ℕ} {o : Observation} (f : Stands t from) (e : code ≡ code_at t from) where

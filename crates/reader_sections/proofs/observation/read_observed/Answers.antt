@@ -17,7 +17,6 @@ use Rattle.reader_sections.specs.declared.steps.Step.{Step}
 use Rattle.reader_sections.specs.Reports.{ObservedSays}
 use Rattle.reader_sections.specs.Steps.{Takes, MayTake}
 use Rattle.reader_sections.proofs.Leads.{then}
-use borrow.Author.Rules.{rules}
 use Rattle.reader_sections.proofs.observation.read_observed.Goals as goal
 
 module _ {t : List ℕ} {from a : Step} {found : Bool} {word : ℕ} (at : MayTake code_at t from found a) where

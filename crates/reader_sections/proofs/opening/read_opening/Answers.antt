@@ -7,7 +7,6 @@ use Rattle.message.specs.declared.Heading.{Heading}
 use Rattle.reader_sections.specs.declared.steps.Step.{Step}
 use Rattle.reader_sections.specs.Openings.{HeadingSays, LineSays, AreaSays, OpeningSays}
 use Rattle.reader_sections.proofs.Leads.{then}
-use borrow.Author.Rules.{rules}
 use Rattle.reader_sections.proofs.opening.read_opening.Goals as goal
 
 opening : {t : List ℕ} {from a b to : Step} {h : Heading} {l : FirstLine} {r : Area} → HeadingSays t from a h → LineSays t a b l → AreaSays t b to r → OpeningSays t from to (record { heading = h; line = l; area = r })

@@ -1,9 +1,7 @@
 -- `read_outline` meets its contract: the points read stand at the head of the array, and as many are left as there is room.
 use Prim.Native.Nat.{◌-◌}
-use native.Mathlib.Omega.{arith}
 use Rattle.message.specs.Limits.{most_points}
-use Rattle.reader_sections.proofs.OutlineLaws.{Gone, gone-none, gone-refused, gone-on, gone-over}
-use borrow.Author.Rules.{rules}
+use Rattle.reader_sections.proofs.OutlineLaws.{Gone}
 use Rattle.reader_sections.proofs.outline.read_outline.Given as goal
 
 abbrev pub invariant-loop-step : goal.invariant-loop-step

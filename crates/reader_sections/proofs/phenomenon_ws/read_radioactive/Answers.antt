@@ -9,7 +9,6 @@ use Rattle.grammar.specs.Steps.{step}
 use Rattle.reader_sections.specs.declared.steps.Step.{Step}
 use Rattle.reader_sections.specs.Phenomena.{WeatherFrom}
 use Rattle.reader_sections.specs.Steps.{TakesFixed}
-use borrow.Author.Rules.{rules}
 use Rattle.reader_sections.proofs.phenomenon_ws.read_radioactive.Goals as goal
 
 rdoact-cld : {t : List ℕ} {from to : Step} → TakesFixed code-cld 7 t from to → WeatherFrom at_radioactive t from to 15

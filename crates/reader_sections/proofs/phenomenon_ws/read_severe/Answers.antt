@@ -15,7 +15,6 @@ use Rattle.reader_sections.specs.Phenomena.{WeatherFrom}
 use Rattle.reader_sections.specs.Steps.{Stands, Before, Judged, MayTake, Leads}
 use Rattle.reader_sections.proofs.NextCode.{code_at, takes-code}
 use Rattle.reader_sections.proofs.Leads.{then, code-no, takes-fixed}
-use borrow.Author.Rules.{rules}
 use Rattle.reader_sections.proofs.phenomenon_ws.read_severe.Goals as goal
 
 module _ {t : List ℕ} {from to : Step} {code : ℕ} (f : Stands t from) (e : code ≡ code_at t from) where

@@ -16,7 +16,6 @@ use Rattle.reader_sections.specs.Steps.{Stands, Before, Judged}
 use Rattle.reader_sections.proofs.NextCode.{code_at, takes-code}
 use Rattle.reader_sections.proofs.Leads.{then, code-no, takes-fixed}
 use Rattle.reader_sections.proofs.Storms.{goes-storm, no-storm}
-use borrow.Author.Rules.{rules}
 use Rattle.reader_sections.proofs.phenomenon_ws.read_weather.Goals as goal
 
 abbrev storms : List ℕ

@@ -14,7 +14,6 @@ use Rattle.reader_sections.specs.declared.steps.Step.{Step}
 use Rattle.reader_sections.specs.Phenomena.{EruptionSays, AshSays}
 use Rattle.reader_sections.specs.Steps.{TakesFixed, TakesLong, MayTake}
 use Rattle.reader_sections.proofs.Leads.{then}
-use borrow.Author.Rules.{rules}
 use Rattle.reader_sections.proofs.phenomenon_wv.read_ash.Goals as goal
 
 module _ {t : List ℕ} {from a b : Step} {found : Bool} (va : TakesFixed code-va 7 t from a) (cld : MayTake code-cld t a found b) where

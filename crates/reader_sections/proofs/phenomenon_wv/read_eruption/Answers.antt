@@ -13,7 +13,6 @@ use Rattle.reader_sections.specs.declared.steps.Step.{Step}
 use Rattle.reader_sections.specs.Phenomena.{MountainSays, EruptionSays}
 use Rattle.reader_sections.specs.Steps.{Takes, TakesFixed}
 use Rattle.reader_sections.proofs.Leads.{then}
-use borrow.Author.Rules.{rules}
 use Rattle.reader_sections.proofs.phenomenon_wv.read_eruption.Goals as goal
 
 erupted : {t : List ℕ} {from a b c d to : Step} {name : Name} {north east : Coordinate} → MountainSays t from a name

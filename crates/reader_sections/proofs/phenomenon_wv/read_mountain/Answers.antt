@@ -16,7 +16,6 @@ use Rattle.reader_sections.specs.Phenomena.{MountainSays}
 use Rattle.reader_sections.specs.Steps.{TakesFixed, MayTake}
 use Rattle.reader_sections.proofs.Leads.{then}
 use Rattle.reader_sections.proofs.NameText.{mountain_closed, mountain-takes, name-closed}
-use borrow.Author.Rules.{rules}
 use Rattle.reader_sections.proofs.phenomenon_wv.read_mountain.Goals as goal
 
 module _ {t : List ℕ} {from a to : Step} {found : Bool} (mt : MayTake code-mt t from found a) where

@@ -1,5 +1,4 @@
 -- `refused_at` meets its contract: the length is that of the word at the refused place.
-use borrow.Author.Rules.{rules}
 use Rattle.reader_sections.proofs.replies.refused_at.Goals as goal
 
 pub returns : goal.returns

@@ -1,6 +1,5 @@
 -- `step_at` meets its contract.
 use Rattle.reader_sections.proofs.Leads.{before-is}
-use borrow.Author.Rules.{rules}
 use Rattle.reader_sections.proofs.steps.step_at.Goals as goal
 
 pub returns : goal.returns

@@ -11,7 +11,6 @@ use Rattle.reader_sections.specs.declared.steps.Step.{Step}
 use Rattle.reader_sections.specs.Forms.{PleaseSays, LongTestSays}
 use Rattle.reader_sections.specs.Steps.{TakesFixed}
 use Rattle.reader_sections.proofs.Leads.{then}
-use borrow.Author.Rules.{rules}
 use Rattle.reader_sections.proofs.test_texts.read_long_test.Goals as goal
 
 this-is-a-test : {t : List ℕ} {from b c d e f to : Step} → TakesFixed code-this 7 t from b → TakesFixed code_is 7 t b c → TakesFixed code-a 7 t c d

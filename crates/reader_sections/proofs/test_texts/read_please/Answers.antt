@@ -13,7 +13,6 @@ use Rattle.reader_sections.specs.declared.steps.Step.{Step}
 use Rattle.reader_sections.specs.Forms.{PleaseSays}
 use Rattle.reader_sections.specs.Steps.{TakesFixed, TakesLong}
 use Rattle.reader_sections.proofs.Leads.{then}
-use borrow.Author.Rules.{rules}
 use Rattle.reader_sections.proofs.test_texts.read_please.Goals as goal
 
 please-disregard : {t : List ℕ} {from a to : Step} → TakesFixed code-please 7 t from a → TakesLong (bytes "DISREGARD") 7 t a to → PleaseSays t from to

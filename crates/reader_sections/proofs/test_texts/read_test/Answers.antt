@@ -12,7 +12,6 @@ use Rattle.reader_sections.specs.declared.steps.Step.{Step}
 use Rattle.reader_sections.specs.Forms.{PleaseSays, TestSays}
 use Rattle.reader_sections.specs.Steps.{MayTake}
 use Rattle.reader_sections.proofs.Leads.{then}
-use borrow.Author.Rules.{rules}
 use Rattle.reader_sections.proofs.test_texts.read_test.Goals as goal
 
 module _ {t : List ℕ} {from a : Step} {found : Bool} (sigmet : MayTake code-sigmet t from found a) where

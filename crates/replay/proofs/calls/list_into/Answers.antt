@@ -6,7 +6,6 @@ use lib.ListN.{length}
 use Rattle.io.proofs.Counting.{length-take_of_le}
 use Rattle.pens.specs.Outcomes.{Wrote}
 use Rattle.listing.proofs.ListLaws.{within}
-use borrow.Author.Rules.{rules}
 use Rattle.replay.proofs.calls.list_into.Goals as goal
 use Rattle.replay.proofs.calls.list_into.Goals.{After-list-listed}
 

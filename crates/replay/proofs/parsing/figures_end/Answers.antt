@@ -1,11 +1,8 @@
 -- `parsing::figures_end` meets its contract: the loop keeps what is still to be found.
-use Prim.Native.Nat.{◌-◌, ◌≤◌}
-use mathlib.Core.Path.{◌≡◌, refl}
+use mathlib.Core.Path.{refl}
 use native.Mathlib.Omega.{arith}
-use lib.ListN.{length}
 use Rattle.words.proofs.Walk.{walk-found, walk-past, walk_none}
-use Rattle.replay.specs.Numbers.{no_figure, figures_end}
-use borrow.Author.Rules.{rules}
+use Rattle.replay.specs.Numbers.{no_figure}
 use Rattle.replay.proofs.parsing.figures_end.Goals as goal
 
 pub loop-i-init : goal.loop-i-init

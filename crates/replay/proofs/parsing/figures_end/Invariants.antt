@@ -1,11 +1,8 @@
 -- `parsing::figures_end` meets its contract: the loop keeps what is still to be found.
 use Prim.Native.Nat.{◌-◌, ◌≤◌}
-use mathlib.Core.Path.{◌≡◌, refl}
-use native.Mathlib.Omega.{arith}
+use mathlib.Core.Path.{◌≡◌}
 use lib.ListN.{length}
-use Rattle.words.proofs.Walk.{walk-found, walk-past, walk_none}
-use Rattle.replay.specs.Numbers.{no_figure, figures_end}
-use borrow.Author.Rules.{rules}
+use Rattle.replay.specs.Numbers.{figures_end}
 use Rattle.replay.proofs.parsing.figures_end.Given as goal
 
 abbrev pub invariant-loop-i : goal.invariant-loop-i

@@ -1,6 +1,5 @@
 -- `parsing::grown` meets its contract.
 use borrow.Author.Tests.{lt-ltb, le-ltb}
-use borrow.Author.Rules.{rules}
 use Rattle.replay.proofs.parsing.grown.Goals as goal
 
 pub returns-then-value-gt-MOST : goal.returns-then-value-gt-MOST

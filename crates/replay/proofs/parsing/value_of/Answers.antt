@@ -1,11 +1,7 @@
 -- `parsing::value_of` meets its contract: the value so far and the figures that are left make the value.
-use Prim.Native.Nat.{◌-◌, ◌≤◌}
 use native.Mathlib.Omega.{arith}
-use lib.ListN.{length, drop}
-use mathlib.Core.Path.{◌≡◌, refl, ◌∙◌}
-use Rattle.replay.specs.Numbers.{capped, value_from}
+use mathlib.Core.Path.{refl, ◌∙◌}
 use Rattle.replay.proofs.NumberLaws.{next-figure, no_more}
-use borrow.Author.Rules.{rules}
 use Rattle.replay.proofs.parsing.value_of.Goals as goal
 
 pub loop-i-init : goal.loop-i-init

@@ -1,7 +1,6 @@
 -- `telling::put_answer` stays within the line.
 use Rattle.pens.proofs.Pages.{inside}
 use Prim.Native.Nat.{zero-le}
-use borrow.Author.Rules.{rules}
 use Rattle.replay.proofs.telling.put_answer.Goals as goal
 
 pub put_number-requires : goal.put_number-requires

@@ -1,8 +1,7 @@
 -- `telling::put_hex` stays within the line.
-use mathlib.Core.Path.{◌≡◌, refl}
-use Prim.Native.Nat.{◌-◌, ◌≤◌, zero-le}
+use mathlib.Core.Path.{refl}
+use Prim.Native.Nat.{zero-le}
 use native.Mathlib.Omega.{arith}
-use lib.ListN.{length}
 use Rattle.pens.proofs.Pages.{inside}
 use borrow.Author.Rules.{rules}
 use Rattle.replay.proofs.telling.put_hex.Goals as goal

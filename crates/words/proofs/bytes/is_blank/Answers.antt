@@ -1,5 +1,4 @@
 -- `bytes::is_blank` meets its contract: the calls of `either` are those of the definition.
-use borrow.Author.Rules.{rules}
 use Rattle.words.proofs.bytes.is_blank.Goals as goal
 
 pub returns : goal.returns

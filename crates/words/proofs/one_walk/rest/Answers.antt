@@ -1,13 +1,8 @@
 -- `one_walk::rest` meets its contract: what is known before place i, and the bytes from there on, come to what is wanted.
-use Prim.Native.Nat.{◌-◌}
-use mathlib.Core.Logic.{⊎_elim}
-use mathlib.Core.Path.{◌≡◌, refl, sym}
+use mathlib.Core.Path.{refl, sym}
 use native.Mathlib.Omega.{arith}
-use lib.ListN.{length, drop}
-use Rattle.words.specs.Seen.{matters_from, all_seen}
-use Rattle.words.proofs.KnownLaws.{Known, known-again, known-quiet, known-settled, known-end}
+use Rattle.words.proofs.KnownLaws.{known-again, known-quiet, known-settled, known-end}
 use Rattle.words.proofs.SeenLaws.{all_settled}
-use borrow.Author.Rules.{rules}
 use Rattle.words.proofs.one_walk.rest.Goals as goal
 use Rattle.words.proofs.one_walk.rest.Goals.{then-least-kind+else-answer-eq2, else-least-kind}
 
@@ -23,10 +18,11 @@ returns-then-answer-eq2 c = known-settled (known-again c.loop-i.invariant.1 (ome
 pub loop-i-preserved : goal.loop-i-preserved
 loop-i-preserved c =
     let inv = c.loop-i.invariant in
-    elim c.if-least-kind.branch
-    [ then-least-kind+else-answer-eq2 w ↦
-        rw (w.answer-is, w.least-is) (w.matters_from-least-then-least-kind.ensures, known-again inv.1 (omega arith) c.kind_of-kind.ensures w.seen-answer.ensures)
-    | else-least-kind w ↦ rw (w.answer-is, w.least-is) (inv.0, known-quiet inv.1 (omega arith) c.kind_of-kind.ensures (rw (← inv.0) w.if-least-kind.false)) ]
+    elim c.if-least-kind.branch [
+      | then-least-kind+else-answer-eq2 w ↦
+          rw (w.answer-is, w.least-is) (w.matters_from-least-then-least-kind.ensures, known-again inv.1 (omega arith) c.kind_of-kind.ensures w.seen-answer.ensures)
+      | else-least-kind w ↦ rw (w.answer-is, w.least-is) (inv.0, known-quiet inv.1 (omega arith) c.kind_of-kind.ensures (rw (← inv.0) w.if-least-kind.false))
+    ]
 
 pub returns : goal.returns
 returns c = search (known-end, arith)

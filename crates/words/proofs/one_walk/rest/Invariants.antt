@@ -1,13 +1,9 @@
 -- `one_walk::rest` meets its contract: what is known before place i, and the bytes from there on, come to what is wanted.
 use Prim.Native.Nat.{◌-◌}
-use mathlib.Core.Logic.{⊎_elim}
-use mathlib.Core.Path.{◌≡◌, refl, sym}
-use native.Mathlib.Omega.{arith}
+use mathlib.Core.Path.{◌≡◌}
 use lib.ListN.{length, drop}
 use Rattle.words.specs.Seen.{matters_from, all_seen}
-use Rattle.words.proofs.KnownLaws.{Known, known-again, known-quiet, known-settled, known-end}
-use Rattle.words.proofs.SeenLaws.{all_settled}
-use borrow.Author.Rules.{rules}
+use Rattle.words.proofs.KnownLaws.{Known}
 use Rattle.words.proofs.one_walk.rest.Given as goal
 
 abbrev pub invariant-loop-i : goal.invariant-loop-i

@@ -6,7 +6,6 @@ use borrow.Author.Tests.{eq-eqb, ne_eqb, le-ltb}
 use Rattle.words.specs.Seen.{matters_from, seen_at}
 use Rattle.words.specs.declared.Checked.{Checked}
 use Rattle.words.proofs.SeenLaws.{seen-quiet, seen-settled}
-use borrow.Author.Rules.{rules}
 use Rattle.words.proofs.one_walk.seen.Goals as goal
 
 module _ (v : Checked) (p k : ℕ) {m : ℕ} (other : v.number ≡ 2 → ⊥) (e : m ≡ matters_from v) (h : m ≤ k) where

@@ -1,7 +1,5 @@
 -- `one_walk::turn` meets its contract: four steps.
-use native.Mathlib.Omega.{arith}
 use Rattle.words.specs.Seen.{four_seen}
-use borrow.Author.Rules.{rules}
 use Rattle.words.proofs.one_walk.turn.Goals as goal
 
 pub returns : goal.returns

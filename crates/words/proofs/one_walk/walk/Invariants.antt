@@ -1,12 +1,7 @@
 -- `one_walk::walk` meets its contract: no byte before place i is `=` or not allowed.
-use Prim.Native.Nat.{ℕ, ◌-◌, ◌≤◌}
-use mathlib.Core.List.{List}
-use mathlib.Core.Path.{refl}
-use native.Mathlib.Omega.{arith}
-use lib.ListN.{length}
-use Rattle.words.specs.Seen.{no_equals, all_seen}
-use Rattle.words.proofs.KnownLaws.{Known, Turn, turn-again, turn-quiet, known-comes}
-use borrow.Author.Rules.{rules}
+use Prim.Native.Nat.{◌-◌, ◌≤◌}
+use Rattle.words.specs.Seen.{all_seen}
+use Rattle.words.proofs.KnownLaws.{Known}
 use Rattle.words.proofs.one_walk.walk.Given as goal
 
 abbrev pub invariant-loop-i : goal.invariant-loop-i

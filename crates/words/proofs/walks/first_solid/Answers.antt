@@ -1,12 +1,8 @@
 -- `walks::first_solid` meets its contract: the loop keeps what is still to be found.
-use Prim.Native.Nat.{◌-◌}
-use mathlib.Core.Path.{◌≡◌, refl}
+use mathlib.Core.Path.{refl}
 use native.Mathlib.Omega.{arith}
-use lib.ListN.{length}
-use Rattle.lists.specs.Lists.{index_from}
 use Rattle.words.specs.Bytes.{solid}
 use Rattle.words.proofs.Walk.{walk-found, walk-past, walk_none}
-use borrow.Author.Rules.{rules}
 use Rattle.words.proofs.walks.first_solid.Goals as goal
 
 pub returns-then-not-is_blank : goal.returns-then-not-is_blank

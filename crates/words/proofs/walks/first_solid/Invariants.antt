@@ -1,12 +1,9 @@
 -- `walks::first_solid` meets its contract: the loop keeps what is still to be found.
 use Prim.Native.Nat.{◌-◌}
-use mathlib.Core.Path.{◌≡◌, refl}
-use native.Mathlib.Omega.{arith}
+use mathlib.Core.Path.{◌≡◌}
 use lib.ListN.{length}
 use Rattle.lists.specs.Lists.{index_from}
 use Rattle.words.specs.Bytes.{solid}
-use Rattle.words.proofs.Walk.{walk-found, walk-past, walk_none}
-use borrow.Author.Rules.{rules}
 use Rattle.words.proofs.walks.first_solid.Given as goal
 
 abbrev pub invariant-loop-i : goal.invariant-loop-i
