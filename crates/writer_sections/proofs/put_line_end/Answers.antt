@@ -1,5 +1,4 @@
 -- `put_line_end` meets its contract: its bytes are CR LF.
-use borrow.Author.Rules.{rules}
 use Rattle.writer_sections.proofs.put_line_end.Goals as goal
 
 pub returns : goal.returns

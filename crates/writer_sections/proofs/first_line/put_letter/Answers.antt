@@ -1,6 +1,5 @@
 -- `put_letter` meets its contract: none has no byte, and a letter has itself.
 use Rattle.writer_sections.proofs.SectionLaws.{no-letter, a-letter}
-use borrow.Author.Rules.{rules}
 use Rattle.writer_sections.proofs.first_line.put_letter.Goals as goal
 
 pub returns-then-letter-eq0 : goal.returns-then-letter-eq0

@@ -2,7 +2,6 @@
 use Rattle.figures.specs.Codes.{behind_one}
 use Rattle.message.specs.Words.{test_texts}
 use Rattle.writer_sections.proofs.SectionLaws.{test-found, last-test}
-use borrow.Author.Rules.{rules}
 use Rattle.writer_sections.proofs.form.put_test.Goals as goal
 
 pub returns-in-1 : goal.returns-in-1

@@ -1,17 +1,11 @@
 -- `put_points` meets its contract: behind the first point come the others, a `-` before each.
-use mathlib.Core.Path.{◌≡◌, refl}
+use mathlib.Core.Path.{◌≡◌}
 use Prim.Native.Nat.{◌-◌, ◌≤◌}
-use native.Mathlib.Omega.{arith}
 use lib.ListN.{length}
 use Rattle.lists.specs.Lists.{part}
-use Rattle.vocabulary.proofs.FixedWords.{fixed-dash}
-use Rattle.coordinates.specs.Points.{no_point}
 use Rattle.pens.specs.Pens.{Words}
-use Rattle.pens.proofs.PenLaws.{no_words}
 use Rattle.message.specs.Limits.{most_points}
 use Rattle.message.specs.Locations.{dashed}
-use Rattle.writer_sections.proofs.SectionLaws.{point-more, points-joined}
-use borrow.Author.Rules.{rules}
 use Rattle.writer_sections.proofs.location.put_points.Given as goal
 
 abbrev pub invariant-loop-i : goal.invariant-loop-i
