@@ -40,7 +40,3 @@ returns-in-9-to-12 c = search (ranged first_word (bytes "SEV") 9 4, arith)
 pub returns-in-13-to-14 : goal.returns-in-13-to-14
 unfolding phenomena same behind_one
 returns-in-13-to-14 c = search (ranged first_word (bytes "HVY") 13 2, arith)
-
-pub returns-in_default : goal.returns-in_default
-unfolding phenomena same behind_one
-returns-in_default c = absurd (omega arith)

@@ -41,7 +41,3 @@ returns-in-14 c = rw c.in-14.is
 pub returns-in-10-to-11 : goal.returns-in-10-to-11
 unfolding phenomena same behind_one
 returns-in-10-to-11 c = ranged second_word (bytes "ICE") 10 2 c.args.n refl (grind arith) (omega arith)
-
-pub returns-in_default : goal.returns-in_default
-unfolding phenomena same behind_one
-returns-in_default c = absurd (omega arith)
