@@ -16,8 +16,9 @@ loop-i-init c = (no_words, omega arith, c.requires.0, refl, search rules)
 pub loop-i-preserved : goal.loop-i-preserved
 loop-i-preserved c =
     let held = c.loop-i.invariant in
-    let more =
-    point-more c.args.points c.loop-i.i no_point held.1 (omega arith) held.0 fixed-dash c.put_fixed-next.ensures c.put_point-next-in-loop-i.ensures in
+    let dash = c.put_fixed-next.ensures in
+    let point = c.put_point-next-in-loop-i.ensures in
+    let more = point-more c.args.points c.loop-i.i no_point held.1 (omega arith) held.0 fixed-dash dash point in
     (more, omega arith, search rules, search rules, held.4)
 
 pub returns : goal.returns

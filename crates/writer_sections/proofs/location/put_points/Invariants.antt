@@ -10,7 +10,8 @@ use Rattle.writer_sections.proofs.location.put_points.Given as goal
 
 abbrev pub invariant-loop-i : goal.invariant-loop-i
 invariant-loop-i l =
-    Words (dashed (part 1 l.i l.points)) l.initial.next l.initial.out l.next l.out × (1 ≤ l.i) × (l.i ≤ l.count) × (length l.out ≡ length l.initial.out) × (length l.points ≡ most_points)
+    Words (dashed (part 1 l.i l.points)) l.initial.next l.initial.out l.next l.out × (1 ≤ l.i) × (l.i ≤ l.count) × (length l.out ≡ length l.initial.out)
+    × (length l.points ≡ most_points)
 
 abbrev pub decreases-loop-i : goal.decreases-loop-i
 decreases-loop-i l = l.count - l.i
