@@ -106,7 +106,7 @@ read-written-read m e h n k =
 -- The theorems are about something: some reply to any bytes is allowed, and some outcome of writing any record to any buffer.
 
 pub some-reading : (bulletin : List ℕ) → (p : Reply) × MayRead bulletin p
-some-reading b = (read_of b, record { lent = ([], tt); address = (0, 0); name = 0; allowed = refl })
+some-reading b = (read_of b, record { lent = ([], tt); address = (0, 0); allowed = refl })
 
 pub some-writing : (r : Record) (buffer : List ℕ) → (w : Written) × (after : List ℕ) × MayWrite r buffer w after
 some-writing r buffer = (

@@ -2,7 +2,7 @@
 -- contents are kept track of, and how long it is lent are whatever they are.
 -- Believed.
 use Rattle.std.specs.Prelude.{true, false, List, ◌++◌, ◌≡◌, ℕ, ◌≤◌, ◌<◌, length, drop}
-use Rattle.std.specs.Borrow.{GName, MutBor}
+use Rattle.std.specs.Borrow.{GName, Bor, MutBor}
 use contract.Lifetimes.{Lfts}
 use Rattle.message.specs.Records.{good}
 use Rattle.message.specs.Words.{text_of}
@@ -16,12 +16,15 @@ use Rattle.pens.specs.declared.Written.{Written}
 abbrev pub slice : ℕ × ℕ → GName → List ℕ → MutBor (List ℕ)
 slice address name contents = record { ref_ptr = address; ghost_name = name; now = contents }
 
+-- the same of one that is only read: its contents stay, and have no name
+abbrev pub shared_slice : ℕ × ℕ → List ℕ → Bor (List ℕ)
+shared_slice address contents = record { ref_ptr = address; now = contents }
+
 -- `read(bulletin)` may answer this reply
 pub record MayRead (bulletin : List ℕ) (reply : Reply) : Type 0 where
   pub lent : Lfts 1
   pub address : ℕ × ℕ
-  pub name : GName
-  pub allowed : read-reads.Learnt lent (slice address name bulletin, tt) reply (slice address name bulletin, tt)
+  pub allowed : read-reads.Learnt lent (shared_slice address bulletin, tt) reply (shared_slice address bulletin, tt)
 
 -- `write(message, buffer)` may answer w and leave the buffer as `after`
 pub record MayWrite (message : Record) (buffer : List ℕ) (w : Written) (after : List ℕ) : Type 0 where

@@ -1,5 +1,6 @@
 // The writer: a record to its canonical text.
 #![tactic(auto)]
+
 ghost use Rattle.std.specs.Prelude.{◌≡◌};
 ghost use Rattle.grammar.specs.Writes.{write_of};
 ghost use Rattle.pens.specs.Outcomes.{wrote};

@@ -2,7 +2,6 @@
 use Rattle.pens.proofs.PenLaws.{line_on}
 use Rattle.message.specs.Words.{area_words, body_words}
 use Rattle.writer_sections.proofs.RecordLaws.{area-fits}
-use borrow.Author.Rules.{rules}
 use Rattle.writer_sections.proofs.put_body.Goals as goal
 
 pub put_area-area_end-requires : goal.put_area-area_end-requires

@@ -1,7 +1,6 @@
 -- `put_good` meets its contract: heading, CR LF, first line, CR LF, body and `=`, one behind the other.
 use Rattle.message.specs.Words.{text_of}
 use Rattle.writer_sections.proofs.Sentences.{line-then, line-end}
-use borrow.Author.Rules.{rules}
 use Rattle.writer_sections.proofs.put_good.Goals as goal
 
 pub returns : goal.returns

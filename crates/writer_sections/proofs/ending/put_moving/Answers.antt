@@ -1,7 +1,6 @@
 -- `put_moving` meets its contract: its words, one behind the other.
 use Rattle.vocabulary.proofs.FixedWords.{fixed-mov}
 use Rattle.writer_sections.proofs.Sentences.{word, word-renamed, word-fixed}
-use borrow.Author.Rules.{rules}
 use Rattle.writer_sections.proofs.ending.put_moving.Goals as goal
 
 pub returns : goal.returns

@@ -2,7 +2,6 @@
 use Rattle.motions.specs.Speeds.{spell_speed}
 use Rattle.pens.proofs.PenLaws.{then}
 use Rattle.writer_sections.proofs.Sentences.{spaced-word, text-renamed}
-use borrow.Author.Rules.{rules}
 use Rattle.writer_sections.proofs.ending.put_speed.Goals as goal
 
 pub returns : goal.returns

@@ -1,7 +1,6 @@
 -- `put_stationary` meets its contract: its words, one behind the other.
 use Rattle.figures.specs.Codes.{behind_one}
 use Rattle.writer_sections.proofs.Sentences.{word}
-use borrow.Author.Rules.{rules}
 use Rattle.writer_sections.proofs.ending.put_stationary.Goals as goal
 
 pub returns : goal.returns

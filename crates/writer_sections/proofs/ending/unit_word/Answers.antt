@@ -1,14 +1,19 @@
 -- `unit_word` meets its contract: each number has its word, and no other number has one.
+use mathlib.Core.Path.{refl}
+use borrow.Author.Rules.{rules}
 use Rattle.figures.specs.Codes.{behind_one}
 use Rattle.motions.specs.Speeds.{unit_words}
 use Rattle.writer_sections.proofs.Tables.{unnumbered}
 use Rattle.writer_sections.proofs.ending.unit_word.Goals as goal
 
 pub returns-in-1 : goal.returns-in-1
+unfolding unit_words behind_one
 returns-in-1 c = rw c.in-1.is
 
 pub returns-in-2 : goal.returns-in-2
+unfolding unit_words behind_one
 returns-in-2 c = rw c.in-2.is
 
 pub returns-in_default : goal.returns-in_default
-returns-in_default c = rw (unnumbered 1 unit_words _ c.in_default.not-2)
+unfolding unit_words behind_one
+returns-in_default c = rw (unnumbered 1 unit_words c.args.n (search rules)) refl

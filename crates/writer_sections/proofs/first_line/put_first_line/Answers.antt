@@ -3,7 +3,6 @@ use Rattle.figures.specs.Codes.{behind_one}
 use Rattle.pens.proofs.PenLaws.{a-line}
 use Rattle.message.specs.Words.{line_words}
 use Rattle.writer_sections.proofs.Sentences.{word}
-use borrow.Author.Rules.{rules}
 use Rattle.writer_sections.proofs.first_line.put_first_line.Goals as goal
 
 pub returns : goal.returns

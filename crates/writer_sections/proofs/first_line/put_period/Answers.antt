@@ -2,7 +2,6 @@
 use Rattle.groups.specs.Groups.{spell_period}
 use Rattle.pens.proofs.PenLaws.{then}
 use Rattle.writer_sections.proofs.Sentences.{spaced-word, byte}
-use borrow.Author.Rules.{rules}
 use Rattle.writer_sections.proofs.first_line.put_period.Goals as goal
 
 pub returns : goal.returns

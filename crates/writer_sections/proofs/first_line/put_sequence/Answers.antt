@@ -2,7 +2,6 @@
 use Rattle.headings.specs.Sequences.{spell_sequence}
 use Rattle.pens.proofs.PenLaws.{then}
 use Rattle.writer_sections.proofs.Sentences.{spaced-word}
-use borrow.Author.Rules.{rules}
 use Rattle.writer_sections.proofs.first_line.put_sequence.Goals as goal
 
 pub returns : goal.returns

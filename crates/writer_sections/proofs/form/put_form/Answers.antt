@@ -3,23 +3,28 @@ use Rattle.pens.proofs.PenLaws.{no_words}
 use Rattle.message.specs.Words.{form_words}
 use Rattle.writer_sections.proofs.RecordLaws.{test-least, test-most, reported}
 use Rattle.writer_sections.proofs.SectionLaws.{form-found}
-use borrow.Author.Rules.{rules}
 use Rattle.writer_sections.proofs.form.put_form.Goals as goal
 
 pub put_test-requires : goal.put_test-requires
+unfolding form_words
 put_test-requires c = search (test-least, test-most)
 
 pub put_report-requires : goal.put_report-requires
+unfolding form_words
 put_report-requires c = search reported
 
 pub returns-in-NoForm : goal.returns-in-NoForm
+unfolding form_words
 returns-in-NoForm c = search (form-found, no_words)
 
 pub returns-in-Test : goal.returns-in-Test
+unfolding form_words
 returns-in-Test c = search form-found
 
 pub returns-in-Cancellation : goal.returns-in-Cancellation
+unfolding form_words
 returns-in-Cancellation c = search form-found
 
 pub returns-in-Reported : goal.returns-in-Reported
+unfolding form_words
 returns-in-Reported c = search form-found

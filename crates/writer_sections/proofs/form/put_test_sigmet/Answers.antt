@@ -2,7 +2,6 @@
 use Rattle.figures.specs.Codes.{behind_one}
 use Rattle.message.specs.Words.{test_texts}
 use Rattle.writer_sections.proofs.Sentences.{word}
-use borrow.Author.Rules.{rules}
 use Rattle.writer_sections.proofs.form.put_test_sigmet.Goals as goal
 
 pub returns : goal.returns

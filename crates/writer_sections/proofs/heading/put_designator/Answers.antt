@@ -2,7 +2,6 @@
 use Rattle.headings.specs.Headings.{spell_designator}
 use Rattle.pens.proofs.PenLaws.{then}
 use Rattle.writer_sections.proofs.Sentences.{renamed-then}
-use borrow.Author.Rules.{rules}
 use Rattle.writer_sections.proofs.heading.put_designator.Goals as goal
 
 pub returns : goal.returns

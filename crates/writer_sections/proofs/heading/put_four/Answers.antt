@@ -1,6 +1,5 @@
 -- `put_four` meets its contract: the letters go on from the space.
 use Rattle.writer_sections.proofs.Sentences.{spaced-word}
-use borrow.Author.Rules.{rules}
 use Rattle.writer_sections.proofs.heading.put_four.Goals as goal
 
 pub returns : goal.returns

@@ -2,7 +2,6 @@
 use Rattle.pens.proofs.PenLaws.{a-line}
 use Rattle.message.specs.Words.{heading_words}
 use Rattle.writer_sections.proofs.Sentences.{word}
-use borrow.Author.Rules.{rules}
 use Rattle.writer_sections.proofs.heading.put_heading.Goals as goal
 
 pub returns : goal.returns

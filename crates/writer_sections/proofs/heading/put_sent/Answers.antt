@@ -1,6 +1,5 @@
 -- `put_sent` meets its contract: the group goes on from the space.
 use Rattle.writer_sections.proofs.Sentences.{spaced-word}
-use borrow.Author.Rules.{rules}
 use Rattle.writer_sections.proofs.heading.put_sent.Goals as goal
 
 pub returns : goal.returns

@@ -1,7 +1,6 @@
 -- `put_band` meets its contract: `/` and three figures go on from the lower level.
 use Rattle.figures.specs.Codes.{behind_one}
 use Rattle.pens.proofs.PenLaws.{then, goes_on}
-use borrow.Author.Rules.{rules}
 use Rattle.writer_sections.proofs.level.put_band.Goals as goal
 
 pub returns : goal.returns

@@ -1,7 +1,6 @@
 -- `put_feet` meets its contract: `FT` goes on from the figures, which are as many as the number asks.
 use Rattle.figures.specs.Codes.{behind_one}
 use Rattle.pens.proofs.PenLaws.{goes_on}
-use borrow.Author.Rules.{rules}
 use Rattle.writer_sections.proofs.level.put_feet.Goals as goal
 
 pub returns : goal.returns

@@ -1,7 +1,6 @@
 -- `put_flight_behind` meets its contract: the word, and the flight level behind it.
 use Rattle.figures.specs.Codes.{behind_one}
 use Rattle.writer_sections.proofs.Sentences.{word}
-use borrow.Author.Rules.{rules}
 use Rattle.writer_sections.proofs.level.put_flight_behind.Goals as goal
 
 pub returns : goal.returns

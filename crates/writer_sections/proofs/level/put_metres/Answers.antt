@@ -1,6 +1,5 @@
 -- `put_metres` meets its contract: `M` goes on from the figures.
 use Rattle.pens.proofs.PenLaws.{goes_on}
-use borrow.Author.Rules.{rules}
 use Rattle.writer_sections.proofs.level.put_metres.Goals as goal
 
 pub returns : goal.returns

@@ -1,7 +1,6 @@
 -- `put_surface` meets its contract: the figures go on from `SFC/`.
 use Rattle.figures.specs.Codes.{behind_one}
 use Rattle.pens.proofs.PenLaws.{goes_on}
-use borrow.Author.Rules.{rules}
 use Rattle.writer_sections.proofs.level.put_surface.Goals as goal
 
 pub returns : goal.returns

@@ -2,7 +2,6 @@
 use Rattle.figures.specs.Codes.{behind_one}
 use Rattle.coordinates.specs.Coordinates.{spell_coordinate}
 use Rattle.writer_sections.proofs.SectionLaws.{longitude-alone, latitude-alone, both-sides}
-use borrow.Author.Rules.{rules}
 use Rattle.writer_sections.proofs.location.put_bound.Goals as goal
 
 pub returns-then-b-eq0 : goal.returns-then-b-eq0

@@ -1,6 +1,5 @@
 -- `put_coordinate` meets its contract: letter and figures go on from the space; minutes where they were written.
 use Rattle.writer_sections.proofs.SectionLaws.{in-degrees, in-minutes}
-use borrow.Author.Rules.{rules}
 use Rattle.writer_sections.proofs.location.put_coordinate.Goals as goal
 
 pub returns-then-c-figures : goal.returns-then-c-figures

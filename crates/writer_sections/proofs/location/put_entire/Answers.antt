@@ -2,7 +2,6 @@
 use Rattle.figures.specs.Codes.{behind_one}
 use Rattle.pens.proofs.PenLaws.{renamed}
 use Rattle.writer_sections.proofs.Sentences.{word}
-use borrow.Author.Rules.{rules}
 use Rattle.writer_sections.proofs.location.put_entire.Goals as goal
 
 pub returns : goal.returns

@@ -2,7 +2,6 @@
 use Rattle.pens.proofs.PenLaws.{no_words}
 use Rattle.writer_sections.proofs.RecordLaws.{bounded, outline-least, outline-most}
 use Rattle.writer_sections.proofs.SectionLaws.{location-found}
-use borrow.Author.Rules.{rules}
 use Rattle.writer_sections.proofs.location.put_extent.Goals as goal
 
 pub put_bound-requires : goal.put_bound-requires

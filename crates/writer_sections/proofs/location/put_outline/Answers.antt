@@ -1,7 +1,6 @@
 -- `put_outline` meets its contract: `WI`, and the points behind it.
 use Rattle.figures.specs.Codes.{behind_one}
 use Rattle.writer_sections.proofs.Sentences.{word}
-use borrow.Author.Rules.{rules}
 use Rattle.writer_sections.proofs.location.put_outline.Goals as goal
 
 pub returns : goal.returns

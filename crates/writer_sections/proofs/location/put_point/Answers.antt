@@ -1,7 +1,6 @@
 -- `put_point` meets its contract: latitude and longitude, one behind the other.
 use Rattle.coordinates.specs.Coordinates.{spell_coordinate}
 use Rattle.writer_sections.proofs.Sentences.{word}
-use borrow.Author.Rules.{rules}
 use Rattle.writer_sections.proofs.location.put_point.Goals as goal
 
 pub returns : goal.returns

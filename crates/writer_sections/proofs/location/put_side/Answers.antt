@@ -1,7 +1,6 @@
 -- `put_side` meets its contract: its words, one behind the other.
 use Rattle.figures.specs.Codes.{behind_one}
 use Rattle.writer_sections.proofs.Sentences.{spaced-words, word}
-use borrow.Author.Rules.{rules}
 use Rattle.writer_sections.proofs.location.put_side.Goals as goal
 
 pub returns : goal.returns

@@ -1,7 +1,6 @@
 -- `put_observation` meets its contract: its word, and the time where one is given.
 use Rattle.vocabulary.proofs.FixedWords.{fixed-at}
 use Rattle.writer_sections.proofs.SectionLaws.{untimed, timed}
-use borrow.Author.Rules.{rules}
 use Rattle.writer_sections.proofs.observation.put_observation.Goals as goal
 
 pub returns-then-o : goal.returns-then-o

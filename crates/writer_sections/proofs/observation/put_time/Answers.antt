@@ -2,7 +2,6 @@
 use Rattle.groups.specs.Groups.{spell_time}
 use Rattle.pens.proofs.PenLaws.{then}
 use Rattle.writer_sections.proofs.Sentences.{spaced-word}
-use borrow.Author.Rules.{rules}
 use Rattle.writer_sections.proofs.observation.put_time.Goals as goal
 
 pub returns : goal.returns

@@ -1,7 +1,6 @@
 -- `put_mount` meets its contract: no count is no name, and a name goes behind `MT`.
 use Rattle.figures.specs.Codes.{behind_one}
 use Rattle.writer_sections.proofs.SectionLaws.{no-mount, a-mount, mount-fits}
-use borrow.Author.Rules.{rules}
 use Rattle.writer_sections.proofs.phenomenon.put_mount.Goals as goal
 
 pub returns-then-n-eq0 : goal.returns-then-n-eq0

@@ -1,7 +1,6 @@
 -- `put_named` meets its contract: a phenomenon has two words, and `SEV ICE (FZRA)` a third.
 use Rattle.vocabulary.proofs.FixedWords.{fixed-freezing-rain}
 use Rattle.writer_sections.proofs.SectionLaws.{two-named, three-named, eruption-named}
-use borrow.Author.Rules.{rules}
 use Rattle.writer_sections.proofs.phenomenon.put_named.Goals as goal
 
 pub returns-then-n-eq-ASH_ERUPTION : goal.returns-then-n-eq-ASH_ERUPTION

@@ -1,6 +1,5 @@
 -- `put_phenomenon` meets its contract: its words, and the volcano of an eruption.
 use Rattle.writer_sections.proofs.SectionLaws.{phenomenon-number, has-volcano, erupted, not-erupted}
-use borrow.Author.Rules.{rules}
 use Rattle.writer_sections.proofs.phenomenon.put_phenomenon.Goals as goal
 
 pub put_named-named_end-requires : goal.put_named-named_end-requires

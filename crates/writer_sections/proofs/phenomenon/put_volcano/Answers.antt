@@ -3,7 +3,6 @@ use Rattle.figures.specs.Codes.{behind_one}
 use Rattle.pens.proofs.PenLaws.{and_then}
 use Rattle.writer_sections.proofs.RecordLaws.{volcano-mount}
 use Rattle.writer_sections.proofs.Sentences.{word, two-words}
-use borrow.Author.Rules.{rules}
 use Rattle.writer_sections.proofs.phenomenon.put_volcano.Goals as goal
 
 pub put_mount-name_end-requires : goal.put_mount-name_end-requires

@@ -2,7 +2,6 @@
 use Rattle.pens.proofs.PenLaws.{and_then}
 use Rattle.message.specs.Reports.{report_words}
 use Rattle.writer_sections.proofs.RecordLaws.{report-phenomenon, report-extent, report-ending}
-use borrow.Author.Rules.{rules}
 use Rattle.writer_sections.proofs.report.put_report.Goals as goal
 
 pub put_phenomenon-phenomenon_end-requires : goal.put_phenomenon-phenomenon_end-requires

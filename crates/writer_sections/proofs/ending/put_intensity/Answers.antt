@@ -1,7 +1,0 @@
--- `put_intensity` meets its contract: the word is that of `intensity_word`.
-use Rattle.pens.proofs.PenLaws.{renamed}
-use borrow.Author.Rules.{rules}
-use Rattle.writer_sections.proofs.ending.put_intensity.Goals as goal
-
-pub returns : goal.returns
-returns c = search renamed
