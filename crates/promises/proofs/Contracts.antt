@@ -41,12 +41,12 @@ use Rattle.promises.proofs.Messages.Asks.{unfit, report, cancellation}
 use Rattle.promises.proofs.Histories.{may-begin, may-post, may-list, begins-so, posts-so, lists-so}
 
 pub may_read : (bulletin : List ℕ) → MayRead bulletin (read_of bulletin)
-may_read b = record { lent = ([], tt); address = (0, 0); name = 0; allowed = refl }
+may_read b = record { lent = ([], tt); address = (0, 0); allowed = refl }
 
 -- Demand 1.
 
 fixed : (bulletin : List ℕ) (p : Reply) → MayRead bulletin p ↔ Replied bulletin p
-fixed b p = (λ m. subst (Replied b) (sym (reads m)) (grammar.read-replied b), λ h. record { lent = ([], tt); address = (0, 0); name = 0; allowed = grammar.replied-only b p h })
+fixed b p = (λ m. subst (Replied b) (sym (reads m)) (grammar.read-replied b), λ h. record { lent = ([], tt); address = (0, 0); allowed = grammar.replied-only b p h })
 
 one-writing : (r : Record) (buffer x y : List ℕ) (w v : Written) → MayWrite r buffer w x → MayWrite r buffer v y → (w ≡ v) × (x ≡ y)
 one-writing r buffer x y w v m n =

@@ -1,6 +1,7 @@
 // The program: one bulletin on standard input, at most 2,049 bytes of it. It prints the refusal number, a space, the place, a space, the length
 // and LF; on 0 also the canonical text and LF.
 #![tactic(auto)]
+
 use message::Record;
 use reader::read;
 use writer::write;
