@@ -1,5 +1,4 @@
 -- `run` comes to the end of the table: each line begins past the one before it.
-use Rattle.std.proofs.Common.{◌-◌, length, arith, rules}
 use Rattle.examples.proofs.run.Goals as goal
 
 pub loop-start-init : goal.loop-start-init

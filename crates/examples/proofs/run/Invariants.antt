@@ -1,5 +1,5 @@
 -- `run` comes to the end of the table: each line begins past the one before it.
-use Rattle.std.proofs.Common.{◌-◌, length, arith, rules}
+use Rattle.std.proofs.Common.{◌-◌, length}
 use Rattle.examples.proofs.run.Given as goal
 
 abbrev pub invariant-loop-start : goal.invariant-loop-start

@@ -1,17 +1,11 @@
 -- `code` meets its contract: every byte fits its type, so the loop reads them all.
 use mathlib.Core.Path.{refl}
-use Prim.Native.Nat.{◌<◌}
 use native.Mathlib.Omega.{arith}
 use lib.ListN.{get_or}
 use borrow.Author.Tests.{lt-ltb}
 use Rattle.figures.specs.Codes.{byte, code_of}
 use Rattle.figures.proofs.Reading.{begins, fits, goes, ends, too_long}
 use Rattle.figures.proofs.code.Goals as goal
-use Rattle.figures.proofs.code.Goals.{After-shared_slice_known-1}
-
--- the byte that is read fits its type
-read_fits : (c : After-shared_slice_known-1) → get_or c.args.w.now c.loop-i.i 0 < 256
-read_fits c = omega (arith, c.shared_slice_known-1.given c.loop-i.i)
 
 pub returns-then-w-gt7 : goal.returns-then-w-gt7
 unfolding code_of
@@ -24,13 +18,13 @@ pub overflow_mul-n : goal.overflow_mul-n
 overflow_mul-n c = omega (arith, fits 256 1 7 byte _ _ c.loop-i.invariant {d = 0} (omega arith) (omega arith))
 
 pub overflow_cast-n : goal.overflow_cast-n
-overflow_cast-n c = omega (arith, read_fits (goal.at.overflow_cast-n c).After-shared_slice_known-1)
+overflow_cast-n c = omega (arith, c.type_inv.w c.loop-i.i)
 
 pub overflow_add-n : goal.overflow_add-n
-overflow_add-n c = omega (arith, fits 256 1 7 byte _ _ c.loop-i.invariant (omega arith) (read_fits (goal.at.overflow_add-n c).After-shared_slice_known-1))
+overflow_add-n c = omega (arith, fits 256 1 7 byte _ _ c.loop-i.invariant {d = get_or c.args.w.now c.loop-i.i 0} (omega arith) (omega (arith, c.type_inv.w c.loop-i.i)))
 
 pub loop-i-preserved : goal.loop-i-preserved
-loop-i-preserved c = goes 256 1 7 byte _ _ c.loop-i.invariant (omega arith) refl (lt-ltb _ 256 (read_fits (goal.at.loop-i-preserved c).After-shared_slice_known-1)) refl (read_fits (goal.at.loop-i-preserved c).After-shared_slice_known-1)
+loop-i-preserved c = goes 256 1 7 byte _ _ c.loop-i.invariant (omega arith) refl (lt-ltb _ 256 (omega (arith, c.type_inv.w c.loop-i.i))) refl (omega (arith, c.type_inv.w c.loop-i.i))
 
 pub returns : goal.returns
 unfolding code_of

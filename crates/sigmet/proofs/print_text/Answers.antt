@@ -1,7 +1,6 @@
 -- `print_text` prints no more than the buffer holds: the writer's count lies within it.
 use Rattle.io.proofs.Counting.{length-take_of_le}
 use Rattle.writer.proofs.Within.{within}
-use borrow.Author.Rules.{rules}
 use Rattle.sigmet.proofs.print_text.Goals as goal
 
 pub slice_bounds-text-end : goal.slice_bounds-text-end

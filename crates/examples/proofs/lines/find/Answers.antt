@@ -1,5 +1,5 @@
 -- `lines::find` stays within the text.
-use Rattle.std.proofs.Common.{◌-◌, ◌≤◌, length, arith}
+use Rattle.std.proofs.Common.{arith}
 use Rattle.examples.proofs.lines.find.Goals as goal
 
 pub loop-i-init : goal.loop-i-init

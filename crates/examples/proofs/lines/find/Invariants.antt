@@ -1,5 +1,5 @@
 -- `lines::find` stays within the text.
-use Rattle.std.proofs.Common.{◌-◌, ◌≤◌, length, arith}
+use Rattle.std.proofs.Common.{◌-◌, ◌≤◌, length}
 use Rattle.examples.proofs.lines.find.Given as goal
 
 abbrev pub invariant-loop-i : goal.invariant-loop-i

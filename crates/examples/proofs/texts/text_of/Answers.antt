@@ -1,5 +1,5 @@
 -- `texts::text_of` stays within `out` and comes to the line's end.
-use Rattle.std.proofs.Common.{◌≡◌, ◌-◌, ◌≤◌, length, refl, arith, length-set, rules}
+use Rattle.std.proofs.Common.{refl, arith, length-set, rules}
 use Rattle.io.proofs.Counting.{prefix_len_of_le}
 use Rattle.examples.proofs.texts.text_of.Goals as goal
 

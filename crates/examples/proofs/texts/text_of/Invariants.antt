@@ -1,6 +1,5 @@
 -- `texts::text_of` stays within `out` and comes to the line's end.
-use Rattle.std.proofs.Common.{◌≡◌, ◌-◌, ◌≤◌, length, refl, arith, length-set, rules}
-use Rattle.io.proofs.Counting.{prefix_len_of_le}
+use Rattle.std.proofs.Common.{◌≡◌, ◌-◌, ◌≤◌, length}
 use Rattle.examples.proofs.texts.text_of.Given as goal
 
 abbrev pub invariant-loop-i : goal.invariant-loop-i

@@ -1,5 +1,4 @@
 -- `writing::is_written` compares and prints no more than the buffer holds: the writer's count lies within it.
-use Rattle.std.proofs.Common.{rules}
 use Rattle.io.proofs.Counting.{length-take_of_le}
 use Rattle.writer.proofs.Within.{within}
 use Rattle.examples.proofs.writing.is_written.Goals as goal
