@@ -190,9 +190,9 @@ long-name = refl
 -- More of them, section by section.
 
 -- "length 0 or over 2,048"
-pub too_long : read_of (replicate 2049 (code "A")) ≡ refusal 1 0 0
+pub too-long : read_of (replicate 2049 (code "A")) ≡ refusal 1 0 0
 unfolding opened
-too_long = refl
+too-long = refl
 
 -- "Words are the longest runs without space, CR or LF"; "Only spaces, CR and LF may follow it": other blanks, the same words
 pub other-blanks : read_of (bytes "\nWSZZ31  QAAA 180830 QBBB SIGMET 1\r\nVALID 180830/181230 QAAA- QBBB NORTH  SOUND FIR SEV ICE FCST\nE OF E114 SFC/FL100 MOV E 20KT WKN =\r\n") ≡ acceptance sample
@@ -232,9 +232,9 @@ pub test-then : read_of (saying "QBBB NORTH SOUND FIR TEST ONLY=") ≡ refusal 1
 unfolding opened
 test-then = refl
 
-pub test_short : read_of (saying "QBBB NORTH SOUND FIR TEST SIGMET=") ≡ refusal 7 93 1
+pub test-short : read_of (saying "QBBB NORTH SOUND FIR TEST SIGMET=") ≡ refusal 7 93 1
 unfolding opened
-test_short = refl
+test-short = refl
 
 -- "rules as above, 30 characters": VA at 82, ERUPTION at 85, MT at 94, two words of 9 at 97 and 107; the third, at 117, has 11 and makes 31
 pub long-mountain : read_of (ash_saying "QBBB NORTH SOUND FIR VA ERUPTION MT ABCDEFGHI ABCDEFGHI ABCDEFGHIJK PSN N00 E010 VA CLD OBS ENTIRE FIR FL100 STNR NC=") ≡ refusal 7 117 11

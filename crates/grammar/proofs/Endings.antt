@@ -300,7 +300,7 @@ forth-word q l ws g top above =
 pub forth-level : (q : ToLocation) (l : Level) (ws : List (List ℕ)) → good_level l ≡ true
     → walk (goes (at_level q)) (level_words l ++ ws) ≡ walk (goes (at_ending (record { before = q; level = l }))) ws
 unfolding step step_level level_words good_level spell_level_word same
-forth-level q NoLevel ws g = clash false g refl
+forth-level q NoLevel _ g = clash false g refl
 forth-level q (Flight n) ws g = forth-word q (Flight n) ws g refl refl
 forth-level q (SurfaceFlight n) ws g = forth-word q (SurfaceFlight n) ws g refl refl
 forth-level q (SurfaceMetres n) ws g = forth-word q (SurfaceMetres n) ws g refl refl

@@ -66,6 +66,7 @@ pub fn same_group(g: Group, h: Group) -> bool
 }
 
 // The group that a word is, or all zero.
+#[tactic(auto, unfolding(crate::specs::Groups::group_of))]
 pub fn group_word(w: &[u8]) -> Group
     ensures { result ≡ group_of w.now }
 {
@@ -88,6 +89,7 @@ pub fn good_period(p: Period) -> bool
 }
 
 // The period that a word `group/group` is, or all zero.
+#[tactic(auto, unfolding(crate::specs::Groups::period_of))]
 pub fn period_word(w: &[u8]) -> Period
     ensures { result ≡ period_of w.now }
 {
@@ -110,6 +112,7 @@ pub fn good_time(t: Time) -> bool
 }
 
 // The time that a word `GGggZ` is, or `NO_HOUR`.
+#[tactic(auto, unfolding(crate::specs::Groups::time_of))]
 pub fn time_word(w: &[u8]) -> Time
     ensures { result ≡ time_of w.now }
 {

@@ -51,7 +51,7 @@ spell_level_word (TopAboveFlight n) = []
 abbrev pub five : List ℕ → Level
 five w = pick (same (part 0 2 w) (bytes "FL")) (if_good good_level_word NoLevel (Flight (figures_of (part 2 5 w)))) NoLevel
 
--- the words of nine bytes after `SFC/`: `FLnnn` and `nnnn_m`
+-- the words of nine bytes after `SFC/`: `FLnnn` and `nnnnM`
 abbrev pub surface_nine : List ℕ → Level
 surface_nine w =
     pick (same (part 4 6 w) (bytes "FL")) (if_good good_level_word NoLevel (SurfaceFlight (figures_of (part 6 9 w))))

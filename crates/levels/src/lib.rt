@@ -61,7 +61,8 @@ fn surface_nine(w: &[u8]) -> Level
             Level::NoLevel
         };
     }
-    if w[8] != b'M' {
+    let other_unit = w[8] != b'M';
+    if other_unit {
         return Level::NoLevel;
     }
     let n = figures(&w[4..8]);

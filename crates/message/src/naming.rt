@@ -15,7 +15,8 @@ fn all_zero(b: &[u8]) -> bool
 {
     let mut i = 0;
     while i < b.len() {
-        if b[i] != 0 {
+        let used = b[i] != 0;
+        if used {
             return false;
         }
         i += 1;

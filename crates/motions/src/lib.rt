@@ -59,7 +59,8 @@ pub fn intensity_word(w: &[u8]) -> u8
     if c == vocabulary::WKN {
         return 2;
     }
-    if c == vocabulary::NC {
+    let is_nc = c == vocabulary::NC;
+    if is_nc {
         return 3;
     }
     0

@@ -50,7 +50,8 @@ pub fn closing_word(w: &[u8]) -> u8
     if c == vocabulary::FIR_UIR {
         return 2;
     }
-    if c == vocabulary::CTA {
+    let is_cta = c == vocabulary::CTA;
+    if is_cta {
         return CLOSED_BY_CTA;
     }
     0

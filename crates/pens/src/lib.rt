@@ -86,7 +86,8 @@ fn put_behind_one(out: &mut [u8], at: usize, code: u64, k: u8) -> usize
     if k == 0 {
         return at;
     }
-    if code < 256 {
+    let none_left = code < 256;
+    if none_left {
         return at;
     }
     let next = put_behind_one(out, at, code / 256, k - 1);

@@ -15,7 +15,7 @@ pub record Timely (h : History) (clock : ℕ) : Type 0 where
   pub ranged : InRange clock
   pub no-earlier : last_clock h ≤ clock
 
--- 64 accepted identities, reported or cancelled, have not ended; `List.Memᴰ i is`: i stands in the list
+-- 64 accepted identities, reported or cancelled, have not ended; `Memᴰ i is`: i stands in the list
 pub record Full (h : History) (clock : ℕ) : Type 0 where
   pub identities : List Identity
   pub count : length identities ≡ place_count

@@ -22,7 +22,7 @@ pub record InForce (h : History) (time : ℕ) (p : Place) : Type 0 where
   pub lasting : time < p.identity.end
   pub unmarked : p.marked ≡ false
 
--- The rows listed: those that are shown and all of them, strictly in the order, and so none twice; `List.Memᴰ p rows`: p stands in the rows.
+-- The rows listed: those that are shown and all of them, strictly in the order, and so none twice; `Memᴰ p rows`: p stands in the rows.
 pub record AllInOrder (shown : Place → Type 0) (rows : List Place) : Type 0 where
   pub those : (p : Place) → Memᴰ p rows → shown p
   pub all : (p : Place) → shown p → Memᴰ p rows

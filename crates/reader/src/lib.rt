@@ -13,7 +13,8 @@ pub fn read(bulletin: &[u8]) -> Reply
     ensures { result ≡ read_of bulletin.now }
 {
     let c = check(bulletin);
-    if c.number != 0 {
+    let refused = c.number != 0;
+    if refused {
         return refusal(c.number, c.place, c.length);
     }
     let end = c.place;

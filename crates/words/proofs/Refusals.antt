@@ -25,6 +25,9 @@ pub refused-long : (b : List ℕ) → (length b ≡ 0 → ⊥) → 2048 < length
 unfolding check_of
 refused-long b some h = rw (ne_eqb (length b) 0 some, lt-ltb 2048 (length b) h)
 
+-- what `check` refuses before the walk
+pub ruleset refusals = (refused-empty, refused-long)
+
 not-refused : (b : List ℕ) → (length b ≡ 0 → ⊥) → length b ≤ 2048 → {r s t : ℕ} → r ≡ barred_at b → length b ≤ r → s ≡ equals_at b → (s ≡ length b → ⊥)
     → t ≡ index_from solid (s + 1) b → length b ≤ t → ◌≡◌ {A = Checked} (record { number = 0; place = s; length = 0 }) (check_of b)
 unfolding check_of

@@ -44,6 +44,7 @@ pub fn is_digit(x: u8) -> bool
 const MOST_BYTES: usize = 2048;
 
 // Can words be read from these bytes? All tests of the bytes in one walk.
+#[tactic(auto, using(crate::proofs::Refusals::refusals))]
 pub fn check(bulletin: &[u8]) -> Checked
     ensures { result ≡ check_of bulletin.now }
 {

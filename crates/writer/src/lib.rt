@@ -19,7 +19,8 @@ pub fn write(message: Record, out: &mut [u8]) -> Written
 {
     let mut page = [0u8; 2049];
     let count = put_text(&mut page, message);
-    if count == 0 {
+    let bad = count == 0;
+    if bad {
         return refused(13);
     }
     if MOST_BYTES < count {

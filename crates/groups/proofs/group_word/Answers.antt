@@ -1,13 +1,9 @@
 -- `group_word` meets its contract: each way out is one of `if_good`'s, and the values read are the parts' figures.
-use borrow.Author.Tests.{eq-eqb, ne_eqb}
+use borrow.Author.Tests.{eq-eqb}
 use Rattle.groups.specs.Groups.{group_of, good_group, no_group}
 use Rattle.groups.proofs.GroupLaws.{group-made}
-use Rattle.figures.proofs.ReadsLaws.{untested, if-good-yes, if-good-no}
+use Rattle.figures.proofs.ReadsLaws.{if-good-yes, if-good-no}
 use Rattle.groups.proofs.group_word.Goals as goal
-
-pub returns-then-w-ne6 : goal.returns-then-w-ne6
-unfolding group_of
-returns-then-w-ne6 c = untested _ no_group (ne_eqb _ 6 c.if-w-ne6.true)
 
 pub returns-then-good_group : goal.returns-then-good_group
 unfolding group_of

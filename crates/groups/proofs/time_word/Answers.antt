@@ -1,22 +1,10 @@
 -- `time_word` meets its contract: each way out is one of `if_good`'s, and the values read are the parts' figures.
-use lib.Dec.{eqb}
-use lib.ListN.{length}
-use borrow.Author.Tests.{eq-eqb, ne_eqb}
-use Rattle.lists.proofs.Choice.{both_true, both-false-left, both-false-right}
+use borrow.Author.Tests.{eq-eqb}
+use Rattle.lists.proofs.Choice.{both_true}
 use Rattle.groups.specs.Groups.{time_of, good_time, no_time}
 use Rattle.groups.proofs.GroupLaws.{time-made}
-use Rattle.figures.proofs.ReadsLaws.{untested, if-good-yes, if-good-no}
+use Rattle.figures.proofs.ReadsLaws.{if-good-yes, if-good-no}
 use Rattle.groups.proofs.time_word.Goals as goal
-
-pub returns-then-w-ne5 : goal.returns-then-w-ne5
-unfolding time_of
-returns-then-w-ne5 c = untested _ no_time (both-false-left _ (ne_eqb _ 5 c.if-w-ne5.true))
-
-pub returns-then-w-ne90 : goal.returns-then-w-ne90
-unfolding time_of
-returns-then-w-ne90 c =
-    untested _ no_time
-    (both-false-right (eqb (length c.args.w.now) 5) (ne_eqb _ _ c.if-w-ne90.true))
 
 pub returns-then-good_time : goal.returns-then-good_time
 unfolding time_of

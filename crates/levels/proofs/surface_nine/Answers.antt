@@ -24,13 +24,13 @@ pub returns-else-is_between : goal.returns-else-is_between
 unfolding good_level_word
 returns-else-is_between c = rw (is-flight (goal.at.returns-else-is_between c).Then-code-eq-FL, ← c.figures-n.ensures, ← c.is_between.ensures, c.if-is_between.false)
 
-pub returns-then-w-ne77 : goal.returns-then-w-ne77
-returns-then-w-ne77 c = rw (no-flight (goal.at.returns-then-w-ne77 c).Else-code-eq-FL, ne_eqb _ 77 c.if-w-ne77.true)
+pub returns-then-other_unit : goal.returns-then-other_unit
+returns-then-other_unit c = rw (no-flight (goal.at.returns-then-other_unit c).Else-code-eq-FL, ne_eqb _ 77 c.if-other_unit.true)
 
 pub returns-then-is_between-2 : goal.returns-then-is_between-2
 unfolding good_level_word
-returns-then-is_between-2 c = rw (no-flight (goal.at.returns-then-is_between-2 c).Else-code-eq-FL, eq-eqb _ 77 c.if-w-ne77.false, ← c.figures-n-2.ensures, ← c.is_between-2.ensures, c.if-is_between-2.true)
+returns-then-is_between-2 c = rw (no-flight (goal.at.returns-then-is_between-2 c).Else-code-eq-FL, eq-eqb _ 77 c.if-other_unit.false, ← c.figures-n-2.ensures, ← c.is_between-2.ensures, c.if-is_between-2.true)
 
 pub returns-else-is_between-2 : goal.returns-else-is_between-2
 unfolding good_level_word
-returns-else-is_between-2 c = rw (no-flight (goal.at.returns-else-is_between-2 c).Else-code-eq-FL, eq-eqb _ 77 c.if-w-ne77.false, ← c.figures-n-2.ensures, ← c.is_between-2.ensures, c.if-is_between-2.false)
+returns-else-is_between-2 c = rw (no-flight (goal.at.returns-else-is_between-2 c).Else-code-eq-FL, eq-eqb _ 77 c.if-other_unit.false, ← c.figures-n-2.ensures, ← c.is_between-2.ensures, c.if-is_between-2.false)

@@ -16,10 +16,10 @@ pub returns-then-c-eq-WKN : goal.returns-then-c-eq-WKN
 unfolding code_of worth_after all_of intensity_words
 returns-then-c-eq-WKN c = intensity-at 1 _ (lit< tt) (sym c.code-c.ensures ∙ c.if-c-eq-WKN.true)
 
-pub returns-then-c-eq-NC : goal.returns-then-c-eq-NC
+pub returns-then-is_nc : goal.returns-then-is_nc
 unfolding code_of worth_after all_of intensity_words
-returns-then-c-eq-NC c = intensity-at 2 _ (lit< tt) (sym c.code-c.ensures ∙ c.if-c-eq-NC.true)
+returns-then-is_nc c = intensity-at 2 _ (lit< tt) (sym c.code-c.ensures ∙ c.if-is_nc.true)
 
 pub returns : goal.returns
 unfolding code_of worth_after all_of intensity_words
-returns c = intensity-none _ (λ e. c.if-c-eq-INTSF.false (c.code-c.ensures ∙ e)) (λ e. c.if-c-eq-WKN.false (c.code-c.ensures ∙ e)) (λ e. c.if-c-eq-NC.false (c.code-c.ensures ∙ e))
+returns c = intensity-none _ (λ e. c.if-c-eq-INTSF.false (c.code-c.ensures ∙ e)) (λ e. c.if-c-eq-WKN.false (c.code-c.ensures ∙ e)) (λ e. c.if-is_nc.false (c.code-c.ensures ∙ e))

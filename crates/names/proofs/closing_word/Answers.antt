@@ -22,9 +22,9 @@ pub returns-then-c-eq-FIR_UIR : goal.returns-then-c-eq-FIR_UIR
 unfolding closing_words distinct all_of same code_of worth_after
 returns-then-c-eq-FIR_UIR c = number_at 1 closing_words 1 c.args.w.now refl refl (lit< tt) (sym c.code-c.ensures ∙ c.if-c-eq-FIR_UIR.true)
 
-pub returns-then-c-eq-CTA : goal.returns-then-c-eq-CTA
+pub returns-then-is_cta : goal.returns-then-is_cta
 unfolding closing_words distinct all_of same code_of worth_after
-returns-then-c-eq-CTA c = number_at 1 closing_words 2 c.args.w.now refl refl (lit< tt) (sym c.code-c.ensures ∙ c.if-c-eq-CTA.true)
+returns-then-is_cta c = number_at 1 closing_words 2 c.args.w.now refl refl (lit< tt) (sym c.code-c.ensures ∙ c.if-is_cta.true)
 
 pub returns : goal.returns
 unfolding closing_words distinct all_of same code_of worth_after
@@ -32,5 +32,5 @@ returns c =
     let w : List ℕ = c.args.w.now in
     let first : eqb (code_of w) (code_of (bytes "FIR")) ≡ false = ne_eqb _ _ (λ e. c.if-c-eq-FIR.false (c.code-c.ensures ∙ e)) in
     let second : eqb (code_of w) (code_of (bytes "FIR/UIR")) ≡ false = ne_eqb _ _ (λ e. c.if-c-eq-FIR_UIR.false (c.code-c.ensures ∙ e)) in
-    let third : eqb (code_of w) (code_of (bytes "CTA")) ≡ false = ne_eqb _ _ (λ e. c.if-c-eq-CTA.false (c.code-c.ensures ∙ e)) in
+    let third : eqb (code_of w) (code_of (bytes "CTA")) ≡ false = ne_eqb _ _ (λ e. c.if-is_cta.false (c.code-c.ensures ∙ e)) in
     number-none 1 closing_words w refl (rw (first, second, third))

@@ -5,8 +5,8 @@ use Rattle.pens.proofs.+put_behind_one.Goals as goal
 pub returns-then-k-eq0 : goal.returns-then-k-eq0
 returns-then-k-eq0 t c = no_more _ _ c.if-k-eq0.true
 
-pub returns-then-code-lt256 : goal.returns-then-code-lt256
-returns-then-code-lt256 t c = none_left _ _ c.if-code-lt256.true
+pub returns-then-none_left : goal.returns-then-none_left
+returns-then-none_left t c = none_left _ _ c.if-none_left.true
 
 pub returns : goal.returns
-returns t c = byte_more _ _ c.if-k-eq0.false c.if-code-lt256.false c.put_behind_one-next.ensures c.put.ensures
+returns t c = byte_more _ _ c.if-k-eq0.false c.if-none_left.false c.put_behind_one-next.ensures c.put.ensures

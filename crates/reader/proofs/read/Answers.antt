@@ -6,13 +6,13 @@ use Rattle.words.proofs.Refusals.{check-small}
 use Rattle.grammar.specs.Reads.{read_of}
 use Rattle.reader.proofs.read.Goals as goal
 
-pub returns-then-c-ne0 : goal.returns-then-c-ne0
+pub returns-then-refused : goal.returns-then-refused
 unfolding read_of
-returns-then-c-ne0 c = rw (c.refusal.ensures, ← c.check-c.ensures, ne_eqb _ 0 c.if-c-ne0.true)
+returns-then-refused c = rw (c.refusal.ensures, ← c.check-c.ensures, ne_eqb _ 0 c.if-refused.true)
 
 pub slice_bounds-read_text-end : goal.slice_bounds-read_text-end
 slice_bounds-read_text-end c = sym (length-take-le _ _ (rw c.check-c.ensures (check-small _).place))
 
 pub returns : goal.returns
 unfolding read_of
-returns c = rw (c.read_text.ensures, ← c.check-c.ensures, eq-eqb _ 0 c.if-c-ne0.false)
+returns c = rw (c.read_text.ensures, ← c.check-c.ensures, eq-eqb _ 0 c.if-refused.false)
