@@ -65,7 +65,8 @@ pub fn three(w: &[u8]) -> u16
     ensures { result ≡ three_of w.now }
 {
     let n = figures(w);
-    if n < 1000 { n as u16 } else { 1000 }
+    let within = n < 1000;
+    if within { n as u16 } else { 1000 }
 }
 
 // The code of a word of at most seven bytes: a 1 and then its bytes; 0 of a longer word.
