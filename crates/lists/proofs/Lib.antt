@@ -4,4 +4,5 @@ pub mod Sweeps
 pub mod Parts
 pub mod Base
 pub mod Counting
+pub mod Found
 pub mod Determined
