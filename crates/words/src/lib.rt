@@ -58,6 +58,7 @@ pub fn check(bulletin: &[u8]) -> Result<usize, Fault>
 }
 
 // The next word of the text from a place on: empty, at the text's length, where only blanks are left (past the text, at the place).
+#[tactic(auto, unfolding(crate::specs::Words::span_of))]
 pub fn word_at(text: &[u8], place: usize) -> Span
     ensures { result ≡ span_of text.now place }
 {
@@ -67,6 +68,7 @@ pub fn word_at(text: &[u8], place: usize) -> Span
 }
 
 // The length of the next word of the text from a place on; the `=` behind the text is a word of one byte.
+#[tactic(auto, using(crate::proofs::NextWord::lengths))]
 pub fn length_at(text: &[u8], place: usize) -> usize
     ensures { result ≡ length_at text.now place }
 {

@@ -51,6 +51,7 @@ impl SoFar {
     }
 
     // The same of the four bytes of a turn, from this place on.
+    #[tactic(auto, unfolding(crate::specs::Seen::four_seen))]
     fn turn(self, place: usize, k0: u8, k1: u8, k2: u8, k3: u8) -> SoFar
         requires { place + 3 ≤ 18446744073709551615 }
         ensures { (n : ℕ) → shown n result ≡ four_seen (shown n self) place k0 k1 k2 k3 }
