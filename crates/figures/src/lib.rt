@@ -46,7 +46,8 @@ pub fn figures(w: &[u8]) -> Option<u32>
     Some(n)
 }
 
-// The same where the figures count less than 100.
+// The same where the figures count less than 100. `two` and `three` stay two functions: one over the bound and the type of its number would be
+// no shorter than these two lines, and each caller would have to name both.
 pub fn two(w: &[u8]) -> Option<u8>
     ensures { result ≡ found (λ n. ltb n 100) (two_of w.now) }
 {

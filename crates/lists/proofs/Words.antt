@@ -48,3 +48,6 @@ same-pointwise [] [] = refl
 same-pointwise [] (y ∷ ys) = refl
 same-pointwise (x ∷ xs) [] = refl
 same-pointwise (x ∷ xs) (y ∷ ys) = both-and (eqb x y) (same xs ys) ∙ ap (λ (b : Bool). eqb x y && b) (same-pointwise xs ys)
+
+-- for a function that compares slices, to name in its attribute
+pub ruleset sames = (same-pointwise)
