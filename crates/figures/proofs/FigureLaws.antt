@@ -7,7 +7,7 @@ use native.Mathlib.Nat.{pow-le-pow_right, le_trans}
 use native.Mathlib.Omega.{arith}
 use lib.Dec.{leb, ltb, lit<}
 use lib.ListN.{length, length-map}
-use borrow.Author.Tests.{le-leb, lt-ltb, le-ltb, ltb-true}
+use borrow.Author.Tests.{le-leb, lt-ltb, ltb-true}
 use Rattle.lists.specs.Choice.{pick, both}
 use Rattle.lists.specs.Lists.{all_of, part}
 use Rattle.lists.specs.Base.{worth, places}
@@ -92,9 +92,6 @@ figures-part w a e h k l = sym (rw (length_part a e w h k) at (figures-back (par
 -- a number that is known as m, capped
 pub capped-below : (limit n m : ℕ) → n ≡ m → n < limit → n ≡ capped limit m
 capped-below limit n m e h = rw (← e, lt-ltb n limit h)
-
-pub capped-past : (limit n m : ℕ) → n ≡ m → limit ≤ n → limit ≡ capped limit m
-capped-past limit n m e h = rw (← e, le-ltb n limit h)
 
 pub capped_is : (limit n : ℕ) → capped limit n < limit → capped limit n ≡ n
 capped_is limit n h = pick_true n limit (picked (ltb n limit) n limit h)

@@ -45,6 +45,10 @@ module _ (b v most : ℕ) (f : ℕ → Bool) (w ds : List ℕ) where
     pub fits : {d : ℕ} → i < length w → d < b → n * b + d < suc v * b ^ most
     fits h k = le_trans (grows k) (mul-le-mul_left (suc v) (pow-le-pow_right (omega arith) (le_trans h r.short)))
 
+    -- the number is below the bound of the longest word
+    pub below : (0 < b) → i ≤ most → n < suc v * b ^ most
+    below z h = le_trans r.small (mul-le-mul_left (suc v) (pow-le-pow_right z h))
+
     pub goes : {d : ℕ} → i < length w → length ds ≡ length w → f (get_or w i 0) ≡ true → get_or ds i 0 ≡ d → d < b → Reading b v most f w ds (n * b + d) (i + 1)
     goes h long e at k = record {
       within = omega arith;

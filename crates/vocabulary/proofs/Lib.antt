@@ -1,3 +1,2 @@
 pub mod FixedWords
-pub mod Sameness
 pub mod Determined

@@ -1,5 +1,6 @@
 // The fixed words of the paper, each once: whoever reads or writes one names it here. A word of at most seven bytes is its code, a 1 and then
-// its bytes, so that one number tells it and puts it.
+// its bytes, so that one number tells it and puts it. They stay numbers, and no slices or enums: the reader works out the code of a word once,
+// and telling it from any fixed word is then one comparison of numbers and no walk over its bytes.
 #![tactic(auto)]
 
 ghost use Rattle.std.specs.Prelude.{◌≡◌};
@@ -162,18 +163,9 @@ pub const ERUPTION: [u8; 8] = *b"ERUPTION";
 pub const DISREGARD: [u8; 9] = *b"DISREGARD";
 
 // Is it the same word? It is asked of the two that have no code.
+#[tactic(auto, using(lists::proofs::Words::sames))]
 pub fn same_word(w: &[u8], k: &[u8]) -> bool
     ensures { result ≡ same_as w.now k.now }
 {
-    if w.len() != k.len() {
-        return false;
-    }
-    let mut i = 0;
-    while i < w.len() {
-        if w[i] != k[i] {
-            return false;
-        }
-        i += 1;
-    }
-    true
+    w == k
 }

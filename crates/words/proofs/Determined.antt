@@ -1,6 +1,7 @@
 -- Each public contract of this crate determines its reply: two replies that it allows on the same arguments are equal.
 use Rattle.lists.proofs.Choice.{determined}
 use Rattle.lists.specs.Determined.{Determines}
+use Rattle.words.proofs.Refusals.{told-once}
 use Rattle.words.proofs.check.Kinds as check-kinds
 use Rattle.words.proofs.check.Reads as check-reads
 use Rattle.words.proofs.word_at.Kinds as word-at-kinds
@@ -19,7 +20,7 @@ pub is-digit-determined : Determines 0 is-digit-kinds.ps is-digit-kinds.r is-dig
 is-digit-determined κs a r s x y p q = determined p q
 
 pub check-determined : Determines 1 check-kinds.ps check-kinds.r check-reads.Learnt
-check-determined κs a r s x y p q = determined p q
+check-determined κs a r s x y p q = told-once r s (determined p q)
 
 pub word-at-determined : Determines 1 word-at-kinds.ps word-at-kinds.r word-at-reads.Learnt
 word-at-determined κs a r s x y p q = determined p q

@@ -9,7 +9,7 @@ use lib.ListN.{length, drop, get_or, drop_of_length-le}
 use lib.Seq.{drop-cons}
 use Rattle.words.specs.Kinds.{IsKind}
 use Rattle.words.specs.Seen.{no_equals, seen_at, four_seen, all_seen, matters_from}
-use Rattle.words.specs.declared.Checked.{Checked}
+use Rattle.words.specs.Check.{Checked}
 use Rattle.words.proofs.SeenLaws.{seen-quiet, all_settled}
 
 -- v is what the bytes before place i tell, and with those from there on the answer is w

@@ -68,6 +68,9 @@ module _ (t : List ℕ) (p : ℕ) {r : Span} (e : r ≡ span_of t p) where
   pub length-word : (r.start ≡ r.end → ⊥) → r.end - r.start ≡ length_at t p
   length-word k = text-or-equals t p (λ h. rw e (sym (text-length t p h))) (λ h. absurd (k (rw e (sym (span-empty t p h)))))
 
+-- what `length_at` answers
+pub ruleset lengths = (length-ordered, length-equals, length-word)
+
 -- A word of a text is found again at its own place.
 
 pub span-again : (t : List ℕ) (p : ℕ) → span_of t (span_of t p).start ≡ span_of t p

@@ -1,7 +1,7 @@
 -- The refusal table, numbers 1 to 3: number 1 as `check` meets it, when nothing is refused, and what `check_of` tells.
 use mathlib.Core.Bool.{true, false}
 use mathlib.Core.List.{List, [], ◌∷◌, ◌++◌}
-use mathlib.Core.Path.{◌≡◌, refl, sym, ◌∙◌}
+use mathlib.Core.Path.{◌≡◌, refl, sym, ap, ◌∙◌}
 use Prim.Native.Nat.{ℕ, suc, ◌+◌, ◌≤◌, ◌<◌, zero-le}
 use native.Mathlib.Nat.{add-zero}
 use native.Mathlib.Omega.{arith}
@@ -9,13 +9,15 @@ use lib.Dec.{ltb, eqb, lit≤}
 use lib.ListN.{length, take, drop, get_or, length-append}
 use lib.Seq.{split_at, drop-append-add}
 use borrow.Author.Tests.{lt-ltb, le-ltb, eq-eqb, ne_eqb, ltb-true, ltb-false, eqb-true, eqb-false, not-true}
-use Rattle.lists.specs.Choice.{either}
+use Rattle.std.specs.Prelude.{Result, Ok, Err}
+use Rattle.lists.specs.Choice.{pick, either}
 use Rattle.lists.specs.Lists.{index_of, index_from, all_of, part}
 use Rattle.lists.proofs.Choice.{by, clash, either_left, either-right}
 use Rattle.lists.proofs.Lists.{part-one, from_found, index-within, index-found, index-clear, index-past, index-none, index-all, all_append, all_take, all-weaken, all-not-not}
 use Rattle.words.specs.Bytes.{allowed, letter, digit, punctuation, bracket, blank, solid, equals, unequal, barred}
-use Rattle.words.specs.Check.{check_of, barred_at, equals_at, after_at}
-use Rattle.words.specs.declared.Checked.{Checked}
+use Rattle.words.specs.Check.{Checked, told, check_of, barred_at, equals_at, after_at}
+use Rattle.words.specs.declared.Fault.{Fault}
+use Rattle.words.specs.declared.Fault.TheVariants.{Length, Barred, NoEquals, Behind}
 
 pub refused-empty : (b : List ℕ) → length b ≡ 0 → ◌≡◌ {A = Checked} (record { number = 1; place = 0; length = 0 }) (check_of b)
 unfolding check_of
@@ -33,6 +35,25 @@ not-refused : (b : List ℕ) → (length b ≡ 0 → ⊥) → length b ≤ 2048 
 unfolding check_of
 not-refused b some fits {r} {s} {t} e h f k g l =
     rw (ne_eqb (length b) 0 some, le-ltb 2048 (length b) fits, ← e, le-ltb r (length b) h, ← f, ne_eqb s (length b) k, ← g, le-ltb t (length b) l)
+
+-- Answers of which the same is told are the same: an answer is found again in what is told of it.
+unfoldable untold : Checked → Result ℕ Fault
+untold c =
+    pick (eqb c.number 0) (Ok c.place)
+    (pick (eqb c.number 1) (Err Length)
+    (pick (eqb c.number 2) (Err (Barred c.place))
+    (pick (eqb c.length 0) (Err (NoEquals c.place)) (Err (Behind c.place)))))
+
+untold-told : (r : Result ℕ Fault) → untold (told r) ≡ r
+unfolding untold
+untold-told (Ok place) = refl
+untold-told (Err Length) = refl
+untold-told (Err (Barred place)) = refl
+untold-told (Err (NoEquals place)) = refl
+untold-told (Err (Behind place)) = refl
+
+pub told-once : (r s : Result ℕ Fault) → told r ≡ told s → r ≡ s
+told-once r s e = sym (untold-told r) ∙ (ap untold e ∙ untold-told s)
 
 -- What `check_of` tells.
 

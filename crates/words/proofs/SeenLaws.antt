@@ -16,7 +16,7 @@ use Rattle.words.specs.Bytes.{blank, solid, equals, barred}
 use Rattle.words.specs.Check.{check_of, barred_at, equals_at, after_at}
 use Rattle.words.specs.Kinds.{kind_of}
 use Rattle.words.specs.Seen.{no_equals, matters_from, seen_at, all_seen}
-use Rattle.words.specs.declared.Checked.{Checked}
+use Rattle.words.specs.Check.{Checked}
 
 -- what can be known, beside `no_equals`: a byte at place p is not allowed
 abbrev not_allowed : ℕ → Checked

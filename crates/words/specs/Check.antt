@@ -1,11 +1,18 @@
 -- 01, "Refusal numbers", reader, numbers 1 to 3 with their places, in the paper's order; 02, CR 4, their lengths: "1 for number 2 and for a
 -- byte after `=`, 0 for number 1 and for a missing `=`".
 -- Believed.
-use Rattle.std.specs.Prelude.{List, ℕ, ◌+◌, ltb, eqb, length}
+use Rattle.std.specs.Prelude.{Result, Ok, Err, List, ℕ, ◌+◌, ltb, eqb, length}
 use Rattle.lists.specs.Choice.{pick, either}
 use Rattle.lists.specs.Lists.{index_of, index_from}
 use Rattle.words.specs.Bytes.{solid, equals, barred}
-use Rattle.words.specs.declared.Checked.{Checked}
+use Rattle.words.specs.declared.Fault.{Fault}
+use Rattle.words.specs.declared.Fault.TheVariants.{Length, Barred, NoEquals, Behind}
+
+-- the refusal number with its place and length, or number 0 with the place of the first `=` and length 0
+pub record Checked : Type 0 where
+  pub number : ℕ
+  pub place : ℕ
+  pub length : ℕ
 
 -- "byte not allowed": the first such
 abbrev pub barred_at : List ℕ → ℕ
@@ -27,3 +34,11 @@ check_of b =
     (pick (eqb (equals_at b) (length b)) (record { number = 3; place = length b; length = 0 })
     (pick (ltb (after_at b) (length b)) (record { number = 3; place = after_at b; length = 1 })
     (record { number = 0; place = equals_at b; length = 0 }))))
+
+-- what an answer of `check` tells: number, place and length
+abbrev pub told : Result ℕ Fault → Checked
+told (Ok place) = record { number = 0; place = place; length = 0 }
+told (Err Length) = record { number = 1; place = 0; length = 0 }
+told (Err (Barred place)) = record { number = 2; place = place; length = 1 }
+told (Err (NoEquals place)) = record { number = 3; place = place; length = 0 }
+told (Err (Behind place)) = record { number = 3; place = place; length = 1 }

@@ -4,11 +4,20 @@ use Rattle.std.specs.Prelude.{List, [], ◌∷◌, ℕ, suc, ◌+◌, ltb, eqb}
 use Prim.Native.Char.{code}
 use Rattle.lists.specs.Choice.{pick}
 use Rattle.words.specs.Kinds.{kind_of}
-use Rattle.words.specs.declared.Checked.{Checked}
+use Rattle.words.specs.Check.{Checked}
+use Rattle.words.specs.declared.one_walk.SoFar.{SoFar}
+use Rattle.words.specs.declared.one_walk.SoFar.TheVariants.{NoEquals, Blanks, Behind, Barred}
 
 -- no `=` so far; n is the number of all bytes
 abbrev pub no_equals : ℕ → Checked
 no_equals n = record { number = 3; place = n; length = 0 }
+
+-- what is known, as number, place and length; n is the number of all bytes
+abbrev pub shown : ℕ → SoFar → Checked
+shown n NoEquals = no_equals n
+shown n (Blanks place) = record { number = 0; place = place; length = 0 }
+shown n (Behind place) = record { number = 3; place = place; length = 1 }
+shown n (Barred place) = record { number = 2; place = place; length = 1 }
 
 -- the least kind that can change what is known: behind the `=` that of a word, beyond something else there that of a byte not allowed, and
 -- before the `=` that of `=`; where a byte is not allowed none can, and it is not asked

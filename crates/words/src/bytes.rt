@@ -1,11 +1,15 @@
-// The test of one byte.
+// The tests of one byte: is it a blank, or is it none?
 ghost use Rattle.std.specs.Prelude.{◌≡◌};
-ghost use Rattle.words.specs.Bytes.{blank};
-
-use lists::either;
+ghost use Rattle.words.specs.Bytes.{blank, solid};
 
 pub(crate) fn is_blank(x: u8) -> bool
     ensures { result ≡ blank x }
 {
-    either(x == b' ', either(x == b'\r', x == b'\n'))
+    x == b' ' || x == b'\r' || x == b'\n'
+}
+
+pub(crate) fn is_solid(x: u8) -> bool
+    ensures { result ≡ solid x }
+{
+    !is_blank(x)
 }

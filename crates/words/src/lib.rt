@@ -3,7 +3,7 @@
 
 ghost use Rattle.std.specs.Prelude.{◌≡◌};
 ghost use Rattle.words.specs.Bytes.{letter, digit};
-ghost use Rattle.words.specs.Check.{check_of};
+ghost use Rattle.words.specs.Check.{check_of, told};
 ghost use Rattle.words.specs.Words.{span_of, length_at};
 
 mod bytes;
@@ -11,18 +11,20 @@ mod one_walk;
 mod table;
 mod walks;
 
-use lists::both;
+use bytes::{is_blank, is_solid};
 
-// The refusal number with its place and length, or number 0 with the place of the first `=` and length 0.
-#[derive(Clone, Copy)]
-pub struct Checked {
-    pub number: u8,
-    pub place: usize,
-    pub length: usize,
+// Why no words can be read: too few bytes or too many; the byte at this place is not allowed; there is no `=` in this many bytes; or the byte at
+// this place, behind the first `=`, is no blank. `told` has the refusal number, the place and the length of each.
+#[derive(Clone, Copy, PartialEq, Eq, Debug)]
+pub enum Fault {
+    Length,
+    Barred(usize),
+    NoEquals(usize),
+    Behind(usize),
 }
 
 // Where a word begins, and where it ends: the end is not counted.
-#[derive(Clone, Copy)]
+#[derive(Clone, Copy, PartialEq, Eq)]
 pub struct Span {
     pub start: usize,
     pub end: usize,
@@ -31,52 +33,42 @@ pub struct Span {
 pub fn is_letter(x: u8) -> bool
     ensures { result ≡ letter x }
 {
-    both(b'A' <= x, x <= b'Z')
+    b'A' <= x && x <= b'Z'
 }
 
 pub fn is_digit(x: u8) -> bool
     ensures { result ≡ digit x }
 {
-    both(b'0' <= x, x <= b'9')
+    b'0' <= x && x <= b'9'
 }
 
 // The most bytes that a bulletin may have.
 const MOST_BYTES: usize = 2048;
 
-// Can words be read from these bytes? All tests of the bytes in one walk.
+// Where the first `=` stands, if words can be read from these bytes. All tests of the bytes in one walk.
 #[tactic(auto, using(crate::proofs::Refusals::refusals))]
-pub fn check(bulletin: &[u8]) -> Checked
-    ensures { result ≡ check_of bulletin.now }
+pub fn check(bulletin: &[u8]) -> Result<usize, Fault>
+    ensures { told result ≡ check_of bulletin.now }
 {
     let length = bulletin.len();
-    if length == 0 {
-        return Checked {
-            number: 1,
-            place: 0,
-            length: 0,
-        };
+    if length == 0 || MOST_BYTES < length {
+        return Err(Fault::Length);
     }
-    if MOST_BYTES < length {
-        return Checked {
-            number: 1,
-            place: 0,
-            length: 0,
-        };
-    }
-    let kinds = table::kinds();
-    one_walk::walk(bulletin, &kinds)
+    one_walk::walk(bulletin, &table::kinds())
 }
 
 // The next word of the text from a place on: empty, at the text's length, where only blanks are left (past the text, at the place).
+#[tactic(auto, unfolding(crate::specs::Words::span_of))]
 pub fn word_at(text: &[u8], place: usize) -> Span
     ensures { result ≡ span_of text.now place }
 {
-    let start = walks::first_solid(text, place);
-    let end = walks::first_blank(text, start);
+    let start = walks::first(text, place, is_solid);
+    let end = walks::first(text, start, is_blank);
     Span { start, end }
 }
 
 // The length of the next word of the text from a place on; the `=` behind the text is a word of one byte.
+#[tactic(auto, using(crate::proofs::NextWord::lengths))]
 pub fn length_at(text: &[u8], place: usize) -> usize
     ensures { result ≡ length_at text.now place }
 {

@@ -1,32 +1,16 @@
-// The walks that find a word: to the first byte that is no blank, and to the first blank.
-ghost use Rattle.std.specs.Prelude.{◌≡◌};
+// The walk that finds where a word begins and where it ends.
+ghost use Rattle.std.specs.Prelude.{◌≡◌, Bool, ℕ};
 ghost use Rattle.lists.specs.Lists.{index_from};
-ghost use Rattle.words.specs.Bytes.{blank, solid};
 
-use crate::bytes::is_blank;
-
-pub(crate) fn first_solid(b: &[u8], start: usize) -> usize
-    ensures { result ≡ index_from solid start b.now }
+// The first place from `start` on whose byte passes the test: the text's length where none does (past the text, `start`).
+pub(crate) fn first<F: Fn(u8) -> bool>(b: &[u8], start: usize, test: F) -> usize
+    requires { F.IsAlwaysCallable test }
+    ensures { (f : ℕ → Bool) → ((x : ℕ) (r : Bool) → F.post test x r → r ≡ f x) → result ≡ index_from f start b.now }
 {
-    let mut i = start;
-    while i < b.len() {
-        if !is_blank(b[i]) {
+    for i in start..b.len() {
+        if test(b[i]) {
             return i;
         }
-        i += 1;
     }
-    i
-}
-
-pub(crate) fn first_blank(b: &[u8], start: usize) -> usize
-    ensures { result ≡ index_from blank start b.now }
-{
-    let mut i = start;
-    while i < b.len() {
-        if is_blank(b[i]) {
-            return i;
-        }
-        i += 1;
-    }
-    i
+    start.max(b.len())
 }

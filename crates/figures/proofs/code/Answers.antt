@@ -11,21 +11,21 @@ pub returns-then-w-gt7 : goal.returns-then-w-gt7
 unfolding code_of
 returns-then-w-gt7 c = too_long 256 1 7 byte c.args.w.now _ 0 (omega arith)
 
-pub loop-i-init : goal.loop-i-init
-loop-i-init c = begins 256 1 7 byte _ _ (omega arith)
+pub loop-x-init : goal.loop-x-init
+loop-x-init c = begins 256 1 7 byte _ _ (omega arith)
 
 pub overflow_mul-n : goal.overflow_mul-n
-overflow_mul-n c = omega (arith, fits 256 1 7 byte _ _ c.loop-i.invariant {d = 0} (omega arith) (omega arith))
+overflow_mul-n c = omega (arith, fits 256 1 7 byte _ _ c.loop-x.invariant {d = 0} (omega arith) (omega arith))
 
 pub overflow_cast-n : goal.overflow_cast-n
-overflow_cast-n c = omega (arith, c.type_inv.w c.loop-i.i)
+overflow_cast-n c = omega (arith, c.type_inv.w c.loop-x.x-index)
 
 pub overflow_add-n : goal.overflow_add-n
-overflow_add-n c = omega (arith, fits 256 1 7 byte _ _ c.loop-i.invariant {d = get_or c.args.w.now c.loop-i.i 0} (omega arith) (omega (arith, c.type_inv.w c.loop-i.i)))
+overflow_add-n c = omega (arith, fits 256 1 7 byte _ _ c.loop-x.invariant {d = get_or c.args.w.now c.loop-x.x-index 0} (omega arith) (omega (arith, c.type_inv.w c.loop-x.x-index)))
 
-pub loop-i-preserved : goal.loop-i-preserved
-loop-i-preserved c = goes 256 1 7 byte _ _ c.loop-i.invariant (omega arith) refl (lt-ltb _ 256 (omega (arith, c.type_inv.w c.loop-i.i))) refl (omega (arith, c.type_inv.w c.loop-i.i))
+pub loop-x-preserved : goal.loop-x-preserved
+loop-x-preserved c = goes 256 1 7 byte _ _ c.loop-x.invariant (omega arith) refl (lt-ltb _ 256 (omega (arith, c.type_inv.w c.loop-x.x-index))) refl (omega (arith, c.type_inv.w c.loop-x.x-index))
 
 pub returns : goal.returns
 unfolding code_of
-returns c = ends 256 1 7 byte _ _ c.loop-i.invariant 0 (omega arith) refl
+returns c = ends 256 1 7 byte _ _ c.loop-x.invariant 0 (omega arith) refl

@@ -1,7 +1,7 @@
 -- `one_walk::walk` meets its contract: no byte before place i is `=` or not allowed.
 use Prim.Native.Nat.{ℕ}
 use mathlib.Core.List.{List}
-use mathlib.Core.Path.{refl}
+use mathlib.Core.Path.{refl, ◌∙◌}
 use native.Mathlib.Omega.{arith}
 use lib.ListN.{length}
 use Rattle.words.specs.Seen.{no_equals, all_seen}
@@ -32,10 +32,10 @@ pub loop-i-init : goal.loop-i-init
 loop-i-init c = (omega arith, record { so = refl })
 
 pub returns-then-k0-k1 : goal.returns-then-k0-k1
-returns-then-k0-k1 c = known-comes (turn-again (turn (goal.at.returns-then-k0-k1 c).After-kind_of-k3) c.turn-known.ensures) c.rest.ensures
+returns-then-k0-k1 c = c.answer.ensures ∙ known-comes (turn-again (turn (goal.at.returns-then-k0-k1 c).After-kind_of-k3) (c.turn-known.ensures _)) (c.rest.ensures _)
 
 pub loop-i-preserved : goal.loop-i-preserved
 loop-i-preserved c = (omega arith, turn-quiet (turn (goal.at.loop-i-preserved c).After-kind_of-k3) c.if-k0-k1.false)
 
 pub returns : goal.returns
-returns c = known-comes c.loop-i.invariant.1 c.rest-2.ensures
+returns c = c.answer-2.ensures ∙ known-comes c.loop-i.invariant.1 (c.rest-2.ensures _)
