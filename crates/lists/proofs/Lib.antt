@@ -4,5 +4,6 @@ pub mod Sweeps
 pub mod Parts
 pub mod Base
 pub mod Counting
+pub mod Words
 pub mod Found
 pub mod Determined

@@ -1,5 +1,6 @@
 // Choice and list laws that every other crate cites: specs/ has the definitions, proofs/ the laws. The code is the two
-// connectives as functions, since the branches of `&&` and `||` would meet again in every proof that uses them.
+// connectives as functions. No crate calls them any more, for the code of the others has `&&` and `||`; they stay, for
+// they are public, and what they promise stays promised (`both-determined` and `either-determined`).
 #![tactic(auto)]
 
 ghost use Rattle.std.specs.Prelude.{◌≡◌};
