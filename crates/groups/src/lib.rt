@@ -47,7 +47,7 @@ fn on_clock(hour: u8, minute: u8) -> bool
 pub fn good_group(g: Group) -> bool
     ensures { result ≡ good_group g }
 {
-    1 <= g.day && g.day <= 31 && on_clock(g.hour, g.minute)
+    (1..=31).contains(&g.day) && on_clock(g.hour, g.minute)
 }
 
 // Have two groups the same day, hour and minute?
