@@ -3,12 +3,14 @@ use mathlib.Core.Bool.{Bool, true, false, not}
 use mathlib.Core.List.{List, [], ◌∷◌, map}
 use mathlib.Core.Logic.{inl, inr}
 use mathlib.Core.Path.{◌≡◌, refl, ap, sym, ◌∙◌}
-use Prim.Native.Nat.{ℕ, zero, suc, ◌+◌, ◌-◌, ◌≤◌, ◌<◌}
-use native.Mathlib.Nat.{add-sub_cancel_left, not-suc-le-zero, le_of_suc-le-suc, le_refl}
+use Prim.Native.Nat.{ℕ, zero, suc, ◌+◌, ◌-◌, ◌≤◌, ◌<◌, zero-le, suc-le-suc}
+use native.Mathlib.Nat.{add-zero, add-sub_cancel_left, not-suc-le-zero, le_of_suc-le-suc, le_refl}
 use native.Mathlib.Omega.{arith}
-use lib.Dec.{leb, ltb, eqb}
+use lib.Dec.{leb, ltb, eqb, leb-suc-suc}
 use lib.ListN.{length, get_or}
 use borrow.Author.Tests.{ltb-true, ltb-false, not-true, lt-ltb, le-ltb, le-leb, lt-leb}
+use Rattle.std.specs.Prelude.{Option, Some, None}
+use Rattle.lists.specs.Choice.{pick, found}
 use Rattle.lists.specs.Lists.{all_of, index_of, same}
 use Rattle.lists.proofs.Choice.{by, both_left, both_right, both_true, both-false-left, pick_true, pick-false}
 use Rattle.lists.proofs.Lists.{all-at, index-none, index-found, index-within, same_refl, same-is}
@@ -49,28 +51,30 @@ table-reads table t = record {
   refuses = le-ltb (length table) (length table) (le_refl (length table));
 }
 
--- a word with the code of the table's word k has number first + k
-pub number_at : (first : ℕ) (table : List (List ℕ)) (k : ℕ) (w : List ℕ) → distinct table ≡ true → all_of short table ≡ true → k < length table → code_of w ≡ code_of (word_of table k) → first + k ≡ number_in first table w
-number_at first table k w d s h e =
-    let is : w ≡ word_of table k = code-tells w (word_of table k) (all-at short table [] s k h) e in
-    let found : word_in table w ≡ k = ap (word_in table) is ∙ (table-reads table d).forth k (lt-ltb k (length table) h) in
-    let inside : in_table table (word_in table w) ≡ true = rw found (lt-ltb k (length table) h) in
-    sym (pick_true (first + word_in table w) 0 inside ∙ ap (λ (n : ℕ). first + n) found)
+-- The number that a code tells, where the codes of the words are tried in their order.
 
-same_none : (table : List (List ℕ)) (w : List ℕ) → all_of short table ≡ true → all_of (λ (k : List ℕ). not (eqb (code_of w) (code_of k))) table ≡ true → all_of (λ (k : List ℕ). not (same w k)) table ≡ true
-unfolding all_of
-same_none [] w s t = refl
-same_none (k ∷ ks) w s t =
-    let other : not (same w k) ≡ true =
-    ap not (sym (same_code w k (both_left (short k) (all_of short ks) s))) ∙ both_left (not (eqb (code_of w) (code_of k))) (all_of (λ (x : List ℕ). not (eqb (code_of w) (code_of x))) ks) t in
-    both_true other
-    (same_none ks w (both_right (short k) (all_of short ks) s) (both_right (not (eqb (code_of w) (code_of k))) (all_of (λ (x : List ℕ). not (eqb (code_of w) (code_of x))) ks) t))
+abbrev pub coded : ℕ → List (List ℕ) → ℕ → Option ℕ
+coded first [] c = None
+coded first (k ∷ ks) c = pick (eqb c (code_of k)) (Some first) (coded (suc first) ks c)
 
--- a word that has the code of no word of the table has number 0
-pub number-none : (first : ℕ) (table : List (List ℕ)) (w : List ℕ) → all_of short table ≡ true → all_of (λ (k : List ℕ). not (eqb (code_of w) (code_of k))) table ≡ true → 0 ≡ number_in first table w
-number-none first table w s t =
-    let past : word_in table w ≡ length table = index-none (same w) table (same_none table w s t) in
-    sym (pick-false (first + word_in table w) 0 (le-ltb (word_in table w) (length table) (omega arith)))
+coded-word : (first : ℕ) (table : List (List ℕ)) (w : List ℕ) → all_of short table ≡ true → pick (in_table table (word_in table w)) (Some (first + word_in table w)) None ≡ coded first table (code_of w)
+unfolding index_of all_of
+coded-word first [] w s = refl
+coded-word first (k ∷ ks) w s =
+    let here : eqb (code_of w) (code_of k) ≡ same w k = same_code w k (both_left (short k) (all_of short ks) s) in
+    let m : ℕ = word_in ks w in
+    let next : first + suc m ≡ suc first + m = omega arith in
+    by (same w k)
+    (λ e. rw (here, e, lt-ltb 0 (suc (length ks)) (suc-le-suc zero-le), add-zero))
+    (λ f. rw (here, f, leb-suc-suc (suc m) (length ks), next) (coded-word (suc first) ks w (both_right (short k) (all_of short ks) s)))
+
+pub number-coded : (first : ℕ) (table : List (List ℕ)) (w : List ℕ) → 0 < first → all_of short table ≡ true → found (in_numbers first table) (number_in first table w) ≡ coded first table (code_of w)
+number-coded first table w pos s =
+    let told : pick (in_table table (word_in table w)) (Some (first + word_in table w)) None ≡ coded first table (code_of w) = coded-word first table w s in
+    by (in_table table (word_in table w))
+    (λ e. let within : word_in table w < length table = ltb-true (word_in table w) (length table) e in
+    rw (e, le-leb first (first + word_in table w) (omega arith), le-leb (first + word_in table w) (first + length table - 1) (omega arith)) (rw e at told))
+    (λ f. rw (f, lt-leb first 0 pos) (rw f at told))
 
 -- what holds of every word of a table holds of the word of a number
 pub numbered-all : (f : List ℕ → Bool) (first : ℕ) (table : List (List ℕ)) → 0 < length table → all_of f table ≡ true → (n : ℕ) → in_numbers first table n ≡ true → f (numbered first table n) ≡ true

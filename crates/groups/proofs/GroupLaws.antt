@@ -31,9 +31,6 @@ use Rattle.groups.specs.declared.Time.{Time}
 pub group-made : {d h m x y z : ℕ} → d ≡ x → h ≡ y → m ≡ z → ◌≡◌ {A = Group} (record { day = d; hour = h; minute = m }) (record { day = x; hour = y; minute = z })
 group-made p q r = cc
 
-pub period-made : {f t x y : Group} → f ≡ x → t ≡ y → ◌≡◌ {A = Period} (record { from = f; to = t }) (record { from = x; to = y })
-period-made p q = cc
-
 pub time-made : {h m x y : ℕ} → h ≡ x → m ≡ y → ◌≡◌ {A = Time} (record { hour = h; minute = m }) (record { hour = x; minute = y })
 time-made p q = cc
 

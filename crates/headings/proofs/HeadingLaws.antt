@@ -1,63 +1,68 @@
 -- The words of the heading and the office: each reader and its spelling undo one another, and each spelling is a word.
-use mathlib.Core.Bool.{Bool, true}
-use mathlib.Core.List.{List, ◌++◌}
+use mathlib.Core.Bool.{Bool, true, false}
+use mathlib.Core.List.{List, [], ◌∷◌, ◌++◌}
 use mathlib.Core.Logic.{inl, inr}
-use mathlib.Core.Path.{◌≡◌, refl}
+use mathlib.Core.Path.{◌≡◌, refl, sym, ◌∙◌}
 use Prim.Native.Char.{code}
-use Prim.Native.Nat.{ℕ, ◌+◌, ◌/◌, ◌%◌, ◌^◌, ◌≤◌, ◌<◌}
+use Prim.Native.Nat.{ℕ, ◌/◌, ◌%◌, ◌^◌, ◌≤◌, ◌<◌}
 use native.Mathlib.Omega.{arith}
 use lib.Dec.{leb, ltb, eqb, lit<}
 use lib.ListN.{length, get_or, length-append}
-use borrow.Author.Tests.{leb-true, le-leb, eqb-true, eq-eqb, ne_eqb, lt-ltb}
-use Rattle.lists.specs.Choice.{both}
+use borrow.Author.Tests.{leb-true, le-leb, eqb-true, eq-eqb, lt-ltb, le-ltb, ltb-true, ltb-false}
+use Rattle.std.specs.Prelude.{Some, None}
+use Rattle.std.specs.Int.{w32, to_be_bytes}
+use Rattle.std.specs.List.{list_all}
+use Rattle.lists.specs.Choice.{pick, both, found}
 use Rattle.lists.specs.Lists.{all_of, same, part}
-use Rattle.lists.specs.Base.{places}
+use Rattle.lists.specs.Base.{places, worth_after}
 use Rattle.lists.specs.Text.{bytes}
-use Rattle.lists.proofs.Choice.{by, both-unit, both_left, both_right, both_true}
+use Rattle.lists.proofs.Choice.{by, both_left, both_right, both_true}
 use Rattle.lists.proofs.Lists.{all_append, length_part}
+use Rattle.lists.proofs.Words.{all-list}
 use Rattle.lists.proofs.Parts.{part-whole, part-here, part-past, at-past, part_join, part-cons, marked, marked-long, marked-at}
 use Rattle.words.specs.Bytes.{letter, allowed, plain}
 use Rattle.words.specs.Words.{plain_word}
 use Rattle.words.proofs.Ranges.{between-high}
 use Rattle.figures.specs.Figures.{two_of, in_figures}
 use Rattle.figures.specs.Letters.{letters_of, in_letters, good_letters}
-use Rattle.figures.specs.Codes.{short, code_of}
-use Rattle.figures.specs.Tables.{distinct, word_of, numbered}
+use Rattle.figures.specs.Codes.{code_of}
+use Rattle.figures.specs.Tables.{distinct, numbered}
 use Rattle.figures.specs.Reads.{Reads}
 use Rattle.figures.proofs.FigureLaws.{length-in_figures, two-forth, two_back}
 use Rattle.figures.proofs.ReadsLaws.{Back, if-good-reads, reads-spelled}
 use Rattle.figures.proofs.LetterLaws.{length-in_letters, letters-reads}
 use Rattle.figures.proofs.PlainLaws.{letter-plain, in_figures-plain, in_letters-plain, run-plain}
-use Rattle.figures.proofs.TableLaws.{number_at, number-none, numbered-all, numbers-reads}
+use Rattle.figures.proofs.TableLaws.{number-coded, numbered-all, numbers-reads}
 use Rattle.headings.specs.Headings.{type_words, type_of, good_type, good_designator, no_designator, designator_of, spell_designator, good_correction, correction_of, spell_correction, office_of, spell_office}
 use Rattle.headings.specs.declared.Designator.{Designator}
 
 -- The tests of letters, place by place.
 
-pub two_good : (n : ℕ) → both (ltb n 65536) (both (letter (n / 256 % 256)) (letter (n % 256))) ≡ good_letters 2 n
-unfolding good_letters places all_of
-two_good n = rw (both-unit (letter (n % 256)))
+-- the last bytes of a number are its places
+pub two_good : (n : ℕ) → n < 65536 → list_all letter (n / 256 % 256 ∷ n % 256 ∷ []) ≡ good_letters 2 n
+unfolding good_letters places
+two_good n h = rw (lt-ltb n 65536 h, all-list letter (in_letters 2 n))
 
-pub four-good : (n : ℕ) → n < 256 ^ 4 → both (letter (n / 256 / 256 / 256 % 256)) (both (letter (n / 256 / 256 % 256)) (both (letter (n / 256 % 256)) (letter (n % 256)))) ≡ good_letters 4 n
-unfolding good_letters places all_of
-four-good n h = rw (both-unit (letter (n % 256)), lt-ltb n (256 ^ 4) h)
+pub two_many : (n : ℕ) → 65536 ≤ n → good_letters 2 n ≡ false
+unfolding good_letters
+two_many n h = rw (le-ltb n 65536 h)
+
+pub four_good : (n : ℕ) → n < 256 ^ 4 → list_all letter (to_be_bytes w32 n) ≡ good_letters 4 n
+unfolding good_letters places
+four_good n h =
+    let first : n / 16777216 ≡ n / 256 / 256 / 256 = omega arith in
+    let second : n / 65536 ≡ n / 256 / 256 = omega arith in
+    rw (first, second, lt-ltb n (256 ^ 4) h, all-list letter (in_letters 4 n))
 
 -- The type.
-
-types-short : all_of short type_words ≡ true
-unfolding type_words all_of
-types-short = refl
 
 types-distinct : distinct type_words ≡ true
 unfolding type_words distinct all_of same
 types-distinct = refl
 
-pub type_at : (k : ℕ) (w : List ℕ) → k < length type_words → code_of w ≡ code_of (word_of type_words k) → 2 + k ≡ type_of w
-type_at k w h e = number_at 2 type_words k w types-distinct types-short h e
-
-pub type-none : (w : List ℕ) → (code_of w ≡ code_of (bytes "WS") → ⊥) → (code_of w ≡ code_of (bytes "WV") → ⊥) → 0 ≡ type_of w
-unfolding type_words all_of
-type-none w p q = number-none 2 type_words w types-short (rw (ne_eqb (code_of w) (code_of (bytes "WS")) p, ne_eqb (code_of w) (code_of (bytes "WV")) q))
+pub type_codes : (w : List ℕ) → found good_type (type_of w) ≡ pick (eqb (code_of w) 0x015753) (Some 2) (pick (eqb (code_of w) 0x015756) (Some 3) None)
+unfolding type_words code_of worth_after all_of
+type_codes w = number-coded 2 type_words w (lit< tt) refl
 
 pub type_reads : Reads type_of (numbered 2 type_words) good_type 0
 unfolding type_words
@@ -75,6 +80,23 @@ type-plain n g = numbered-all (all_of plain) 2 type_words (lit< tt) refl n g
 
 two-letters-reads : Reads (letters_of 2) (in_letters 2) (good_letters 2) 0
 two-letters-reads = letters-reads 2 (lit< tt) (lit< tt)
+
+-- a word of letters is one whose number is not 0
+letters_found : (k : ℕ) → Reads (letters_of k) (in_letters k) (good_letters k) 0 → (w : List ℕ) → ltb 0 (letters_of k w) ≡ good_letters k (letters_of k w)
+letters_found k laws w =
+    by (ltb 0 (letters_of k w))
+    (λ t. t ∙ sym (some (ltb-true 0 (letters_of k w) t) (laws.back w)))
+    (λ f. f ∙ sym (none (ltb-false 0 (letters_of k w) f)))
+  where
+    some : 0 < letters_of k w → Back (in_letters k) (good_letters k) 0 w (letters_of k w) → good_letters k (letters_of k w) ≡ true
+    some h (inl e) = absurd (omega arith)
+    some h (inr p) = p.0
+
+    none : letters_of k w ≤ 0 → good_letters k (letters_of k w) ≡ false
+    none h = let e : letters_of k w ≡ 0 = omega arith in rw e laws.refuses
+
+pub two_found : (w : List ℕ) → ltb 0 (letters_of 2 w) ≡ good_letters 2 (letters_of 2 w)
+two_found = letters_found 2 two-letters-reads
 
 module _ (d : Designator) (t : good_designator d ≡ true) where
   good-kind : good_type d.kind ≡ true
@@ -155,9 +177,6 @@ designator-plain d t =
 abbrev correction_test : List ℕ → Bool
 correction_test w = both (eqb (length w) 3) (both (eqb (get_or w 0 0) (code "C")) (eqb (get_or w 1 0) (code "C")))
 
-pub correction-passes : (w : List ℕ) → length w ≡ 3 → get_or w 0 0 ≡ code "C" → get_or w 1 0 ≡ code "C" → correction_test w ≡ true
-correction-passes w l p q = both_true (eq-eqb (length w) 3 l) (both_true (eq-eqb (get_or w 0 0) 67 p) (eq-eqb (get_or w 1 0) 67 q))
-
 correction-spelled : (w : List ℕ) → correction_test w ≡ true → spell_correction (get_or w 2 0) ≡ w
 correction-spelled w t =
     let l : length w ≡ 3 = eqb-true (length w) 3 (both_left (eqb (length w) 3) (both (eqb (get_or w 0 0) 67) (eqb (get_or w 1 0) 67)) t) in
@@ -195,6 +214,12 @@ office_test w = marked 5 4 (code "-") w
 
 four-letters-reads : Reads (letters_of 4) (in_letters 4) (good_letters 4) 0
 four-letters-reads = letters-reads 4 (lit< tt) (lit< tt)
+
+pub four_found : (w : List ℕ) → ltb 0 (letters_of 4 w) ≡ good_letters 4 (letters_of 4 w)
+four_found = letters_found 4 four-letters-reads
+
+pub four_none : good_letters 4 0 ≡ false
+four_none = four-letters-reads.refuses
 
 pub length-office : (o : ℕ) → length (spell_office o) ≡ 5
 length-office o = rw (length-append (in_letters 4 o), length-in_letters 4 o)

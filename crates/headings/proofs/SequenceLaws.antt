@@ -10,10 +10,8 @@ use lib.ListN.{length, get_or, drop, length-drop}
 use lib.Seq.{drop-cons}
 use borrow.Author.Tests.{le-leb, lt-leb, ltb-true, ne_eqb, eqb-true}
 use Rattle.lists.specs.Choice.{pick, both}
-use Rattle.lists.specs.Lists.{part}
-use Rattle.lists.proofs.Choice.{by, both_left, both_right, both_true, both-false-left, either-cases, pick-false}
+use Rattle.lists.proofs.Choice.{by, both_left, both_right, both_true, both-false-left, either-cases}
 use Rattle.lists.proofs.Lists.{all-at}
-use Rattle.lists.proofs.Parts.{part-rest}
 use Rattle.words.specs.Bytes.{between, letter, digit}
 use Rattle.words.specs.Words.{plain_word}
 use Rattle.words.proofs.Ranges.{between-low, between-high}
@@ -24,14 +22,6 @@ use Rattle.figures.proofs.ReadsLaws.{if-good-reads}
 use Rattle.figures.proofs.PlainLaws.{letter-plain, in_figures-plain, run-plain, plain-cons}
 use Rattle.headings.specs.Sequences.{characters, good_sequence, no_sequence, lettered, unlettered, sequence_of, spell_sequence}
 use Rattle.headings.specs.declared.Sequence.{Sequence}
-
-pub ten-none : (d : ℕ) → (d ≡ 1 → ⊥) → (d ≡ 2 → ⊥) → (d ≡ 3 → ⊥) → 1 ≡ pick (between 1 3 d) (10 ^ d) 1
-ten-none d p q r =
-    by (between 1 3 d)
-    (λ t. absurd (omega (arith, between-low 1 3 d t, between-high 1 3 d t)))
-    (λ f. sym (pick-false (10 ^ d) 1 f))
-
--- The tests of a sequence, as the code makes them.
 
 -- the two forms: no letter and 1 to 3 digits, or a letter and 1 or 2
 by_form : {A : Type 0} (s : Sequence) → characters s ≡ true → (s.letter ≡ 0 → 1 ≤ s.digits → s.digits ≤ 3 → A) → (letter s.letter ≡ true → 1 ≤ s.digits → s.digits ≤ 2 → A) → A
@@ -48,20 +38,10 @@ characters-some s t = by_form s t (λ e l h. l) (λ e l h. l)
 characters-few : (s : Sequence) → characters s ≡ true → s.digits ≤ 3
 characters-few s t = by_form s t (λ e l h. h) (λ e l h. omega arith)
 
-pub sequence-good : (s : Sequence) → both (characters s) (both (ltb 0 s.number) (ltb s.number (pick (between 1 3 s.digits) (10 ^ s.digits) 1))) ≡ good_sequence s
-unfolding good_sequence
-sequence-good s = by (characters s) (λ t. rw (le-leb 1 s.digits (characters-some s t), le-leb s.digits 3 (characters-few s t))) (λ f. rw f)
-
--- The value of a word of 1 to 3 bytes, as the code has it.
+-- The value of a word of 1 to 3 bytes.
 
 abbrev pub sequence_value : List ℕ → Sequence
 sequence_value w = pick (letter (get_or w 0 0)) (lettered w) (unlettered w)
-
-pub with-letter : (w : List ℕ) (n : ℕ) → letter (get_or w 0 0) ≡ true → n ≡ three_of (part 1 (length w) w) → record { letter = get_or w 0 0; digits = length w - 1; number = n } ≡ sequence_value w
-with-letter w n t e = rw (t, e, part-rest w 1)
-
-pub without-letter : (w : List ℕ) (n : ℕ) → letter (get_or w 0 0) ≡ false → n ≡ three_of w → record { letter = 0; digits = length w; number = n } ≡ sequence_value w
-without-letter w n f e = rw (f, e)
 
 -- What is good, and its spelling.
 

@@ -2,14 +2,14 @@
 #![tactic(auto)]
 
 ghost use Rattle.std.specs.Prelude.{◌≡◌, ◌^◌};
-ghost use Rattle.lists.specs.Choice.{pick};
-ghost use Rattle.words.specs.Bytes.{between};
+ghost use Rattle.std.specs.List.{list_all};
+ghost use Rattle.lists.specs.Choice.{pick, found};
+ghost use Rattle.words.specs.Bytes.{between, letter};
 ghost use Rattle.figures.specs.Letters.{good_letters};
-ghost use Rattle.headings.specs.Headings.{type_of, good_designator, designator_of, good_correction, correction_of, office_of};
+ghost use Rattle.headings.specs.Headings.{type_of, good_type, good_designator, designator_of, good_correction, correction_of, office_of};
 ghost use Rattle.headings.specs.Sequences.{good_sequence, sequence_of};
 
 use figures::{code, letters, three, two};
-use lists::{both, either};
 use words::is_letter;
 
 // A type is kept as its kind in the listing.
@@ -18,7 +18,7 @@ pub const KIND_WS: u8 = 2;
 pub const KIND_WV: u8 = 3;
 
 // The kind, the two letters in base 256 and the two digits.
-#[derive(Clone, Copy)]
+#[derive(Clone, Copy, PartialEq, Eq)]
 pub struct Designator {
     pub kind: u8,
     pub region: u32,
@@ -32,7 +32,7 @@ pub const NO_DESIGNATOR: Designator = Designator {
 };
 
 // As written: a letter or 0, how many digits, and the number that they count.
-#[derive(Clone, Copy)]
+#[derive(Clone, Copy, PartialEq, Eq)]
 pub struct Sequence {
     pub letter: u8,
     pub digits: u8,
@@ -45,97 +45,91 @@ pub const NO_SEQUENCE: Sequence = Sequence {
     number: 0,
 };
 
+fn all_letters(w: &[u8]) -> bool
+    ensures { result ≡ list_all letter w.now }
+{
+    w.iter().all(|x| is_letter(*x))
+}
+
 // The number is that of two letters.
+#[tactic(auto, using(crate::proofs::HeadingLaws::two_good, crate::proofs::HeadingLaws::two_many))]
 pub fn two_letters(n: u32) -> bool
     ensures { result ≡ good_letters 2 n }
 {
-    let first = is_letter((n / 256 % 256) as u8);
-    let second = is_letter((n % 256) as u8);
-    both(n < 65536, both(first, second))
+    let [_, _, first, second] = n.to_be_bytes();
+    n < 65536 && all_letters(&[first, second])
 }
 
 // The number is that of four letters.
+#[tactic(auto, using(crate::proofs::HeadingLaws::four_good))]
 pub fn four_letters(n: u32) -> bool
     ensures { result ≡ good_letters 4 n }
 {
-    let first = is_letter((n / 256 / 256 / 256 % 256) as u8);
-    let second = is_letter((n / 256 / 256 % 256) as u8);
-    let third = is_letter((n / 256 % 256) as u8);
-    let fourth = is_letter((n % 256) as u8);
-    both(first, both(second, both(third, fourth)))
+    all_letters(&n.to_be_bytes())
 }
 
-// 2 for `WS`, 3 for `WV`, 0 for any other word.
-fn kind_of(w: &[u8]) -> u8
-    ensures { result ≡ type_of w.now }
+// The kind of a type, `WS` or `WV`.
+#[tactic(auto, using(crate::proofs::HeadingLaws::type_codes))]
+fn kind_of(w: &[u8]) -> Option<u8>
+    ensures { result ≡ found good_type (type_of w.now) }
 {
-    let c = code(w);
-    if c == vocabulary::WS {
-        return KIND_WS;
+    match code(w) {
+        vocabulary::WS => Some(KIND_WS),
+        vocabulary::WV => Some(KIND_WV),
+        _ => None,
     }
-    if c == vocabulary::WV {
-        return KIND_WV;
-    }
-    0
 }
 
+#[tactic(auto, unfolding(crate::specs::Headings::good_designator, crate::specs::Headings::type_words))]
 pub fn good_designator(d: Designator) -> bool
     ensures { result ≡ good_designator d }
 {
-    let kind = both(KIND_WS <= d.kind, d.kind <= KIND_WV);
-    both(kind, both(two_letters(d.region), d.number <= 99))
+    (KIND_WS..=KIND_WV).contains(&d.kind) && two_letters(d.region) && d.number <= 99
 }
 
-// The designator that a word is, or all zero.
-pub fn designator_word(w: &[u8]) -> Designator
-    ensures { result ≡ designator_of w.now }
+// The designator that a word is.
+#[tactic(auto, using(crate::proofs::HeadingLaws::two_found), unfolding(crate::specs::Headings::designator_of, crate::specs::Headings::good_designator))]
+pub fn designator_word(w: &[u8]) -> Option<Designator>
+    ensures { result ≡ found good_designator (designator_of w.now) }
 {
     if w.len() != 6 {
-        return NO_DESIGNATOR;
+        return None;
     }
-    let kind = kind_of(&w[0..2]);
-    let region = letters(&w[2..4], 2);
-    let number = two(&w[4..6]);
-    let d = Designator {
+    let kind = kind_of(&w[0..2])?;
+    let region = letters(&w[2..4], 2)?;
+    let number = two(&w[4..6])?;
+    Some(Designator {
         kind,
         region,
         number,
-    };
-    if good_designator(d) { d } else { NO_DESIGNATOR }
+    })
 }
 
+#[tactic(auto, unfolding(crate::specs::Headings::good_correction))]
 pub fn good_correction(c: u8) -> bool
     ensures { result ≡ good_correction c }
 {
-    both(b'A' <= c, c <= b'X')
+    (b'A'..=b'X').contains(&c)
 }
 
-// The letter of a correction, `CCA` to `CCX`, or 0.
-pub fn correction_word(w: &[u8]) -> u8
-    ensures { result ≡ correction_of w.now }
+// The letter of a correction, `CCA` to `CCX`.
+#[tactic(auto, unfolding(crate::specs::Headings::correction_of, crate::specs::Headings::good_correction))]
+pub fn correction_word(w: &[u8]) -> Option<u8>
+    ensures { result ≡ found good_correction (correction_of w.now) }
 {
-    if w.len() != 3 {
-        return 0;
+    match w {
+        [b'C', b'C', c] => good_correction(*c).then_some(*c),
+        _ => None,
     }
-    if w[0] != b'C' {
-        return 0;
-    }
-    if w[1] != b'C' {
-        return 0;
-    }
-    let c = w[2];
-    if good_correction(c) { c } else { 0 }
 }
 
-// The four letters before the hyphen of an office, or 0.
-pub fn office_word(w: &[u8]) -> u32
-    ensures { result ≡ office_of w.now }
+// The four letters before the hyphen of an office.
+#[tactic(auto, using(crate::proofs::HeadingLaws::four_found, crate::proofs::HeadingLaws::four_none), unfolding(crate::specs::Headings::office_of))]
+pub fn office_word(w: &[u8]) -> Option<u32>
+    ensures { result ≡ found (good_letters 4) (office_of w.now) }
 {
-    if w.len() != 5 {
-        return 0;
-    }
-    if w[4] != b'-' {
-        return 0;
+    if w.len() != 5 || w[4] != b'-' {
+        return None;
     }
     letters(&w[0..4], 4)
 }
@@ -152,44 +146,31 @@ fn ten_to(digits: u8) -> u16
     }
 }
 
+#[tactic(auto, unfolding(crate::specs::Sequences::good_sequence))]
 pub fn good_sequence(s: Sequence) -> bool
     ensures { result ≡ good_sequence s }
 {
-    let bare = both(s.letter == 0, both(1 <= s.digits, s.digits <= 3));
-    let lettered = both(is_letter(s.letter), both(1 <= s.digits, s.digits <= 2));
-    let digits = s.digits;
-    let counted = both(0 < s.number, s.number < ten_to(digits));
-    both(either(bare, lettered), counted)
+    let bare = s.letter == 0 && (1..=3).contains(&s.digits);
+    let lettered = is_letter(s.letter) && (1..=2).contains(&s.digits);
+    (bare || lettered) && 0 < s.number && s.number < ten_to(s.digits)
 }
 
-// The sequence that a word is, or all zero.
-pub fn sequence_word(w: &[u8]) -> Sequence
-    ensures { result ≡ sequence_of w.now }
+// The sequence that a word is.
+#[tactic(auto, unfolding(crate::specs::Sequences::sequence_of, crate::specs::Sequences::good_sequence))]
+pub fn sequence_word(w: &[u8]) -> Option<Sequence>
+    ensures { result ≡ found good_sequence (sequence_of w.now) }
 {
-    let length = w.len();
-    if length < 1 {
-        return NO_SEQUENCE;
+    if !(1..=3).contains(&w.len()) {
+        return None;
     }
-    if 3 < length {
-        return NO_SEQUENCE;
-    }
-    let first = w[0];
-    if is_letter(first) {
-        let number = three(&w[1..]);
-        let digits = (length - 1) as u8;
-        let s = Sequence {
-            letter: first,
-            digits,
-            number,
-        };
-        return if good_sequence(s) { s } else { NO_SEQUENCE };
-    }
-    let number = three(w);
-    let digits = length as u8;
-    let s = Sequence {
-        letter: 0,
-        digits,
-        number,
+    let (letter, digits) = match w {
+        [first, rest @ ..] if is_letter(*first) => (*first, rest),
+        _ => (0, w),
     };
-    if good_sequence(s) { s } else { NO_SEQUENCE }
+    let s = Sequence {
+        letter,
+        digits: digits.len() as u8,
+        number: three(digits)?,
+    };
+    good_sequence(s).then_some(s)
 }
