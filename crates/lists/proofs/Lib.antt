@@ -5,3 +5,4 @@ pub mod Parts
 pub mod Base
 pub mod Counting
 pub mod Determined
+pub mod Library
