@@ -7,7 +7,7 @@ ghost use Rattle.groups.specs.Groups.{good_group, group_of, good_period, period_
 use figures::two;
 use lists::both;
 
-#[derive(Clone, Copy)]
+#[derive(Clone, Copy, PartialEq, Eq)]
 pub struct Group {
     pub day: u8,
     pub hour: u8,
@@ -20,7 +20,7 @@ pub const NO_GROUP: Group = Group {
     minute: 0,
 };
 
-#[derive(Clone, Copy)]
+#[derive(Clone, Copy, PartialEq, Eq)]
 pub struct Period {
     pub from: Group,
     pub to: Group,
@@ -32,7 +32,7 @@ pub const NO_PERIOD: Period = Period {
 };
 
 // Hour and minute of a day.
-#[derive(Clone, Copy)]
+#[derive(Clone, Copy, PartialEq, Eq)]
 pub struct Time {
     pub hour: u8,
     pub minute: u8,

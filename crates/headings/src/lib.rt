@@ -18,7 +18,7 @@ pub const KIND_WS: u8 = 2;
 pub const KIND_WV: u8 = 3;
 
 // The kind, the two letters in base 256 and the two digits.
-#[derive(Clone, Copy)]
+#[derive(Clone, Copy, PartialEq, Eq)]
 pub struct Designator {
     pub kind: u8,
     pub region: u32,
@@ -32,7 +32,7 @@ pub const NO_DESIGNATOR: Designator = Designator {
 };
 
 // As written: a letter or 0, how many digits, and the number that they count.
-#[derive(Clone, Copy)]
+#[derive(Clone, Copy, PartialEq, Eq)]
 pub struct Sequence {
     pub letter: u8,
     pub digits: u8,
