@@ -8,8 +8,10 @@ use lib.Pointwise.{pointwise}
 use borrow.Author.Tests.{eqb-true}
 use Rattle.std.proofs.lemmas.Bool.{and_right}
 use Rattle.lists.specs.Choice.{both}
-use Rattle.lists.proofs.Choice.{by}
-use Rattle.lists.proofs.Library.{and_both, pointwise_all}
+use Rattle.lists.proofs.Choice.{by, both-unit}
+use native.Mathlib.Omega.{arith}
+use borrow.Author.Rules.{rules}
+use Rattle.lists.proofs.Library.{and-both, and_both, pointwise_all}
 use Rattle.coordinates.specs.Coordinates.{empty_coordinate, no_coordinate}
 use Rattle.coordinates.specs.Points.{empty_point, no_point}
 use Rattle.coordinates.specs.declared.Coordinate.{Coordinate}
@@ -45,7 +47,7 @@ use Rattle.message.specs.contracts.VolcanoPartialEq.TheImpl as volcano_eq
 
 coordinate-empty : (c : Coordinate) → (coordinate_eq.ghosts).eq c no_coordinate ≡ empty_coordinate c
 unfolding empty_coordinate
-coordinate-empty c = and_both refl (and_both refl (and_both refl refl))
+coordinate-empty c = search rules
 
 point-empty : (p : Point) → (point_eq.ghosts).eq p no_point ≡ empty_point p
 unfolding empty_point
@@ -73,8 +75,10 @@ pub name-empty : (n : Name) → (name_eq.ghosts).eq n no_name ≡ empty_name n
 unfolding empty_name
 name-empty n =
     by (eqb n.count 0)
-    (λ t. ?)
-    (λ z. ?)
+    (λ t.
+    let none : n.count ≡ 0 = eqb-true n.count 0 t in
+    and-both (pointwise eqb n.bytes no_name.bytes) (eqb n.count 0) ∙ rw (pointwise_all eqb zero_byte 0 (λ x. refl) n.bytes name_bytes, t, none) (both-unit _))
+    (λ z. rw z (and_right (pointwise eqb n.bytes no_name.bytes) false refl))
 
 pub volcano-empty : (v : Volcano) → (volcano_eq.ghosts).eq v no_volcano ≡ empty_volcano v
 unfolding empty_volcano
@@ -82,7 +86,7 @@ volcano-empty v = and_both (name-empty v.name) (point-empty v.position)
 
 observation-empty : (o : Observation) → (observation_eq.ghosts).eq o no_observation ≡ empty_observation o
 unfolding empty_observation
-observation-empty o = ?
+observation-empty o = by o.timed (λ t. rw t (and_right (eqb o.word 0) false refl)) (λ f. rw f (search rules))
 
 level-empty : (l : Level) → (level_eq.ghosts).eq l NoLevel ≡ empty_level l
 unfolding empty_level
@@ -103,6 +107,13 @@ ending-empty (Moving d s i) = refl
 ending-empty (Stationary i) = refl
 ending-empty (Forecast i) = refl
 
+both-assoc : (a b c : Bool) → both a (both b c) ≡ both (both a b) c
+both-assoc true b c = refl
+both-assoc false b c = refl
+
 pub report-empty : (r : Report) → (report_eq.ghosts).eq r no_report ≡ empty_report r
 unfolding empty_report
-report-empty r = ?
+report-empty r =
+    and_both refl (and_both (volcano-empty r.volcano) (and_both (observation-empty r.observation)
+    (and_both (extent-empty r.extent) (and_both (level-empty r.level) (and_both (ending-empty r.ending) (extent-empty r.forecast))))))
+    ∙ both-assoc (eqb r.phenomenon 0) (empty_volcano r.volcano) _

@@ -264,7 +264,7 @@ impl FirstLine {
 }
 
 impl Area {
-    #[tactic(auto, unfolding(crate::specs::Records::good_area))]
+    #[tactic(auto, unfolding(crate::specs::Records::good_area, names::specs::Names::closing_words))]
     fn is_good(&self) -> bool
         ensures { result ≡ good_area self.now }
     {

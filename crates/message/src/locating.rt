@@ -63,7 +63,8 @@ fn good_outline(n: u8, points: &[Point; MOST_POINTS]) -> bool
     }
     let (written, unused) = points.split_at(count);
     // The first later point that is the same as the first closes the outline.
-    let closing = written[1..].iter().position(|p| same_point(written[0], *p));
+    let first = points[0];
+    let closing = points[1..].iter().position(|p| same_point(first, *p));
     written.iter().all(|p| good_point(*p))
         && (closing == Some(count - 2) && unused.iter().all(|p| empty_point(*p)))
 }

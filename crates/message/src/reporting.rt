@@ -52,6 +52,7 @@ impl Observation {
     }
 }
 
+#[tactic(auto, unfolding(motions::specs::Motions::intensity_words))]
 fn good_intensity(n: u8) -> bool
     ensures { result ≡ good_intensity n }
 {
@@ -60,7 +61,7 @@ fn good_intensity(n: u8) -> bool
 
 impl Ending {
     // In a bulletin of that kind, with that forecast.
-    #[tactic(auto, unfolding(crate::specs::Reports::good_ending))]
+    #[tactic(auto, unfolding(crate::specs::Reports::good_ending, motions::specs::Motions::compass_words))]
     fn is_good(self, kind: u8, f: &Extent) -> bool
         ensures { result ≡ good_ending kind self f.now }
     {
