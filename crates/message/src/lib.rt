@@ -269,8 +269,7 @@ impl Area {
         ensures { result ≡ good_area self.now }
     {
         four_letters(self.indicator)
-            && (self.name.is_good(false, NAME_BYTES)
-                && (1 <= self.closing && self.closing <= CLOSED_BY_CTA))
+            && (self.name.is_good(false, NAME_BYTES) && matches!(self.closing, 1..=CLOSED_BY_CTA))
     }
 }
 
@@ -288,17 +287,17 @@ fn good_cancellation(l: FirstLine, s: Sequence, from: Group) -> bool
     good_sequence(s) && (good_group(from) && !names_itself(l, s, from))
 }
 
-impl Form {
-    // In a bulletin of that kind, with that first line and that report.
+impl Record {
     #[tactic(auto, unfolding(crate::specs::Records::good_form))]
-    fn is_good(self, kind: u8, line: FirstLine, report: &Report) -> bool
-        ensures { result ≡ good_form kind line report.now self }
+    fn has_good_form(&self) -> bool
+        ensures { result ≡ good_form self.now.heading.designator.kind self.now.line self.now.report self.now.form }
     {
-        match self {
+        match self.form {
             Form::NoForm => false,
-            Form::Test(n) => (1 <= n && n <= 3) && report.is_empty(),
-            Form::Cancellation(s, from) => good_cancellation(line, s, from) && report.is_empty(),
-            Form::Reported => report.is_good(kind),
+            Form::Test(n) => matches!(n, 1..=3) && self.report.is_empty(),
+            Form::Cancellation(s, from) => good_cancellation(self.line, s, from)
+                && self.report.is_empty(),
+            Form::Reported => self.report.is_good(self.heading.designator.kind),
         }
     }
 }
@@ -308,13 +307,5 @@ impl Form {
 pub fn is_good(r: Record) -> bool
     ensures { result ≡ good r }
 {
-    let Record {
-        heading,
-        line,
-        area,
-        form,
-        report,
-    } = r;
-    let kind = heading.designator.kind;
-    heading.is_good() && (line.is_good() && (area.is_good() && form.is_good(kind, line, &report)))
+    r.heading.is_good() && (r.line.is_good() && (r.area.is_good() && r.has_good_form()))
 }

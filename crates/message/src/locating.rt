@@ -13,14 +13,14 @@ impl Side {
     fn is_latitude(&self) -> bool
         ensures { result ≡ good_side north_south self.now }
     {
-        (self.of == b'N' || self.of == b'S') && good_latitude(self.at)
+        matches!(self.of, b'N' | b'S') && good_latitude(self.at)
     }
 
     #[tactic(auto, unfolding(crate::specs::Locations::good_side))]
     fn is_longitude(&self) -> bool
         ensures { result ≡ good_side east_west self.now }
     {
-        (self.of == b'E' || self.of == b'W') && good_longitude(self.at)
+        matches!(self.of, b'E' | b'W') && good_longitude(self.at)
     }
 
     fn is_empty(&self) -> bool
