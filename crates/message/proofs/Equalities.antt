@@ -1,15 +1,13 @@
 -- A derived `==` with an empty value is the definition's test of emptiness.
-use mathlib.Core.Bool.{Bool, true, false, not, ◌&&◌}
+use mathlib.Core.Bool.{Bool, true, false}
 use mathlib.Core.List.{List}
 use mathlib.Core.Path.{◌≡◌, refl, ◌∙◌}
-use Prim.Native.Nat.{ℕ}
 use lib.Dec.{eqb}
 use lib.Pointwise.{pointwise}
 use borrow.Author.Tests.{eqb-true}
 use Rattle.std.proofs.lemmas.Bool.{and_right}
 use Rattle.lists.specs.Choice.{both}
 use Rattle.lists.proofs.Choice.{by, both-unit}
-use native.Mathlib.Omega.{arith}
 use borrow.Author.Rules.{rules}
 use Rattle.lists.proofs.Library.{and-both, and_both, pointwise_all}
 use Rattle.coordinates.specs.Coordinates.{empty_coordinate, no_coordinate}

@@ -242,8 +242,9 @@ impl Heading {
             correction,
         } = *self;
         good_designator(designator)
-            && (four_letters(centre)
-                && (good_group(sent) && (correction == 0 || good_correction(correction))))
+            && four_letters(centre)
+            && good_group(sent)
+            && (correction == 0 || good_correction(correction))
     }
 }
 
@@ -258,8 +259,7 @@ impl FirstLine {
             valid,
             office,
         } = *self;
-        four_letters(unit)
-            && (good_sequence(sequence) && (good_period(valid) && four_letters(office)))
+        four_letters(unit) && good_sequence(sequence) && good_period(valid) && four_letters(office)
     }
 }
 
@@ -269,7 +269,8 @@ impl Area {
         ensures { result ≡ good_area self.now }
     {
         four_letters(self.indicator)
-            && (self.name.is_good(false, NAME_BYTES) && matches!(self.closing, 1..=CLOSED_BY_CTA))
+            && self.name.is_good(false, NAME_BYTES)
+            && matches!(self.closing, 1..=CLOSED_BY_CTA)
     }
 }
 
@@ -284,7 +285,7 @@ pub fn names_itself(l: FirstLine, s: Sequence, from: Group) -> bool
 fn good_cancellation(l: FirstLine, s: Sequence, from: Group) -> bool
     ensures { result ≡ good_cancellation l s from }
 {
-    good_sequence(s) && (good_group(from) && !names_itself(l, s, from))
+    good_sequence(s) && good_group(from) && !names_itself(l, s, from)
 }
 
 impl Record {
@@ -307,5 +308,5 @@ impl Record {
 pub fn is_good(r: Record) -> bool
     ensures { result ≡ good r }
 {
-    r.heading.is_good() && (r.line.is_good() && (r.area.is_good() && r.has_good_form()))
+    r.heading.is_good() && r.line.is_good() && r.area.is_good() && r.has_good_form()
 }

@@ -8,6 +8,7 @@ use crate::{
 };
 use coordinates::{Point, empty_point, good_latitude, good_longitude, good_point, same_point};
 
+// Two functions and no generic one: letters and judge both differ, so that it would be longer than the two.
 impl Side {
     #[tactic(auto, unfolding(crate::specs::Locations::good_side))]
     fn is_latitude(&self) -> bool

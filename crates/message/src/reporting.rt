@@ -35,12 +35,12 @@ impl Observation {
         ensures { result ≡ good_observation self.now }
     {
         let Observation { word, timed, time } = *self;
-        matches!(word, OBSERVED | FORECAST)
-            && if timed {
-                good_time(time)
-            } else {
-                time == UNTIMED
-            }
+        let told = if timed {
+            good_time(time)
+        } else {
+            time == UNTIMED
+        };
+        matches!(word, OBSERVED | FORECAST) && told
     }
 }
 
@@ -72,10 +72,10 @@ impl Report {
         match self.ending {
             Ending::NoEnding => false,
             Ending::Moving(point, s, n) => {
-                (point < NO_COMPASS && (good_speed(s) && good_intensity(n))) && forecast.is_empty()
+                point < NO_COMPASS && good_speed(s) && good_intensity(n) && forecast.is_empty()
             }
             Ending::Stationary(n) => good_intensity(n) && forecast.is_empty(),
-            Ending::Forecast(n) => (kind == KIND_WS && good_intensity(n)) && forecast.is_good(),
+            Ending::Forecast(n) => kind == KIND_WS && good_intensity(n) && forecast.is_good(),
         }
     }
 
@@ -84,9 +84,10 @@ impl Report {
         ensures { result ≡ good_report kind self.now }
     {
         self.has_good_phenomenon(kind)
-            && (self.observation.is_good()
-                && (self.extent.is_good()
-                    && (good_level(self.level) && self.has_good_ending(kind))))
+            && self.observation.is_good()
+            && self.extent.is_good()
+            && good_level(self.level)
+            && self.has_good_ending(kind)
     }
 
     pub(crate) fn is_empty(&self) -> bool
