@@ -10,7 +10,7 @@ use lists::{both, either};
 mod axis;
 
 // Letter and digits as written: how many digits, and the degrees and minutes that they count.
-#[derive(Clone, Copy)]
+#[derive(Clone, Copy, PartialEq, Eq)]
 pub struct Coordinate {
     pub letter: u8,
     pub digits: u8,
@@ -25,7 +25,7 @@ pub const NO_COORDINATE: Coordinate = Coordinate {
     minutes: 0,
 };
 
-#[derive(Clone, Copy)]
+#[derive(Clone, Copy, PartialEq, Eq)]
 pub struct Point {
     pub latitude: Coordinate,
     pub longitude: Coordinate,

@@ -8,7 +8,7 @@ ghost use Rattle.levels.specs.Levels.{good_band, feet_figures, five, surface_nin
 use figures::{code, figures};
 use lists::both;
 
-#[derive(Clone, Copy)]
+#[derive(Clone, Copy, PartialEq, Eq)]
 pub enum Level {
     NoLevel,
     Flight(u32),

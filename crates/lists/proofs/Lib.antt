@@ -7,3 +7,4 @@ pub mod Counting
 pub mod Words
 pub mod Found
 pub mod Determined
+pub mod Library

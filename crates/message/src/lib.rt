@@ -2,20 +2,19 @@
 #![tactic(auto)]
 
 ghost use Rattle.std.specs.Prelude.{◌≡◌};
-ghost use Rattle.message.specs.Records.{good_heading, good_line, good_area, same_sequence, names_itself, good_cancellation, good_form, good};
+ghost use Rattle.message.specs.Records.{good_heading, good_line, good_area, names_itself, good_cancellation, good_form, good};
 
 mod locating;
 mod naming;
 mod reporting;
 
 use coordinates::{Coordinate, NO_COORDINATE, NO_POINT, Point};
-use groups::{Group, NO_GROUP, NO_PERIOD, Period, Time, good_group, good_period, same_group};
+use groups::{Group, NO_GROUP, NO_PERIOD, Period, Time, good_group, good_period};
 use headings::{
     Designator, NO_DESIGNATOR, NO_SEQUENCE, Sequence, four_letters, good_correction,
     good_designator, good_sequence,
 };
 use levels::Level;
-use lists::{both, either};
 use motions::Speed;
 use names::CLOSED_BY_CTA;
 
@@ -55,7 +54,7 @@ pub const OBSERVED: u8 = 1;
 pub const FORECAST: u8 = 2;
 
 // Letters are kept as one number, in base 256.
-#[derive(Clone, Copy)]
+#[derive(Clone, Copy, PartialEq, Eq)]
 pub struct Heading {
     pub designator: Designator,
     pub centre: u32,
@@ -63,7 +62,7 @@ pub struct Heading {
     pub correction: u8,
 }
 
-#[derive(Clone, Copy)]
+#[derive(Clone, Copy, PartialEq, Eq)]
 pub struct FirstLine {
     pub unit: u32,
     pub sequence: Sequence,
@@ -72,7 +71,7 @@ pub struct FirstLine {
 }
 
 // The text of a name, its words parted by single spaces: the first `count` bytes. The others are zero.
-#[derive(Clone, Copy)]
+#[derive(Clone, Copy, PartialEq, Eq)]
 pub struct Name {
     pub bytes: [u8; NAME_BYTES],
     pub count: usize,
@@ -84,7 +83,7 @@ pub const NO_NAME: Name = Name {
 };
 
 // The closing word is 1 FIR, 2 FIR/UIR or 3 CTA.
-#[derive(Clone, Copy)]
+#[derive(Clone, Copy, PartialEq, Eq)]
 pub struct Area {
     pub indicator: u32,
     pub name: Name,
@@ -92,7 +91,7 @@ pub struct Area {
 }
 
 // A test by its text, 1 to 3; a cancellation by its target's sequence and start (its end is that of VALID); or a report.
-#[derive(Clone, Copy)]
+#[derive(Clone, Copy, PartialEq, Eq)]
 pub enum Form {
     NoForm,
     Test(u8),
@@ -101,7 +100,7 @@ pub enum Form {
 }
 
 // What erupts: a mountain, where it is named, and its position.
-#[derive(Clone, Copy)]
+#[derive(Clone, Copy, PartialEq, Eq)]
 pub struct Volcano {
     pub name: Name,
     pub position: Point,
@@ -113,7 +112,7 @@ pub const NO_VOLCANO: Volcano = Volcano {
 };
 
 // OBS or FCST, and the time, where one is given.
-#[derive(Clone, Copy)]
+#[derive(Clone, Copy, PartialEq, Eq)]
 pub struct Observation {
     pub word: u8,
     pub timed: bool,
@@ -124,7 +123,7 @@ pub struct Observation {
 pub const UNTIMED: Time = Time { hour: 0, minute: 0 };
 
 // `N OF` a latitude, and so on: the letter before OF, and the coordinate.
-#[derive(Clone, Copy)]
+#[derive(Clone, Copy, PartialEq, Eq)]
 pub struct Side {
     pub of: u8,
     pub at: Coordinate,
@@ -135,14 +134,14 @@ pub const NO_SIDE: Side = Side {
     at: NO_COORDINATE,
 };
 
-#[derive(Clone, Copy)]
+#[derive(Clone, Copy, PartialEq, Eq)]
 pub struct Bound {
     pub latitude: Side,
     pub longitude: Side,
 }
 
 // Exactly one of three things: a bound, an outline of so many points, or the entire area. `Nowhere` is the empty case.
-#[derive(Clone, Copy)]
+#[derive(Clone, Copy, PartialEq, Eq)]
 pub enum Location {
     Nowhere,
     Bounded(Bound),
@@ -151,7 +150,7 @@ pub enum Location {
 }
 
 // A location with the points of its outline beside it.
-#[derive(Clone, Copy)]
+#[derive(Clone, Copy, PartialEq, Eq)]
 pub struct Extent {
     pub location: Location,
     pub points: [Point; MOST_POINTS],
@@ -165,7 +164,7 @@ pub const NO_EXTENT: Extent = Extent {
 };
 
 // Movement as compass point, speed and intensity; no movement and intensity; or intensity and a forecast.
-#[derive(Clone, Copy)]
+#[derive(Clone, Copy, PartialEq, Eq)]
 pub enum Ending {
     NoEnding,
     Moving(u8, Speed, u8),
@@ -174,7 +173,7 @@ pub enum Ending {
 }
 
 // The phenomenon is 1 to 17, in the paper's order; 0 is none.
-#[derive(Clone, Copy)]
+#[derive(Clone, Copy, PartialEq, Eq)]
 pub struct Report {
     pub phenomenon: u8,
     pub volcano: Volcano,
@@ -199,7 +198,7 @@ pub const NO_REPORT: Report = Report {
     forecast: NO_EXTENT,
 };
 
-#[derive(Clone, Copy)]
+#[derive(Clone, Copy, PartialEq, Eq)]
 pub struct Record {
     pub heading: Heading,
     pub line: FirstLine,
@@ -231,91 +230,83 @@ pub const NO_RECORD: Record = Record {
     report: NO_REPORT,
 };
 
-fn good_heading(h: Heading) -> bool
-    ensures { result ≡ good_heading h }
-{
-    let designator = h.designator;
-    let sent = h.sent;
-    let correction = either(h.correction == 0, good_correction(h.correction));
-    both(
-        good_designator(designator),
-        both(four_letters(h.centre), both(good_group(sent), correction)),
-    )
+impl Heading {
+    #[tactic(auto, unfolding(crate::specs::Records::good_heading))]
+    fn is_good(&self) -> bool
+        ensures { result ≡ good_heading self.now }
+    {
+        let Heading {
+            designator,
+            centre,
+            sent,
+            correction,
+        } = *self;
+        good_designator(designator)
+            && four_letters(centre)
+            && good_group(sent)
+            && (correction == 0 || good_correction(correction))
+    }
 }
 
-fn good_line(l: FirstLine) -> bool
-    ensures { result ≡ good_line l }
-{
-    let sequence = l.sequence;
-    let valid = l.valid;
-    let office = both(good_period(valid), four_letters(l.office));
-    both(four_letters(l.unit), both(good_sequence(sequence), office))
+impl FirstLine {
+    #[tactic(auto, unfolding(crate::specs::Records::good_line))]
+    fn is_good(&self) -> bool
+        ensures { result ≡ good_line self.now }
+    {
+        let FirstLine {
+            unit,
+            sequence,
+            valid,
+            office,
+        } = *self;
+        four_letters(unit) && good_sequence(sequence) && good_period(valid) && four_letters(office)
+    }
 }
 
-fn good_area(a: Area) -> bool
-    ensures { result ≡ good_area a }
-{
-    let name = a.name;
-    let closing = both(1 <= a.closing, a.closing <= CLOSED_BY_CTA);
-    both(
-        four_letters(a.indicator),
-        both(naming::good(name, false, NAME_BYTES), closing),
-    )
-}
-
-fn same_sequence(s: Sequence, t: Sequence) -> bool
-    ensures { result ≡ same_sequence s t }
-{
-    both(
-        s.letter == t.letter,
-        both(s.digits == t.digits, s.number == t.number),
-    )
+impl Area {
+    #[tactic(auto, unfolding(crate::specs::Records::good_area, names::specs::Names::closing_words))]
+    fn is_good(&self) -> bool
+        ensures { result ≡ good_area self.now }
+    {
+        four_letters(self.indicator)
+            && self.name.is_good(false, NAME_BYTES)
+            && matches!(self.closing, 1..=CLOSED_BY_CTA)
+    }
 }
 
 // Would a cancellation of that sequence and start name the message itself?
+#[tactic(auto, unfolding(crate::specs::Records::names_itself))]
 pub fn names_itself(l: FirstLine, s: Sequence, from: Group) -> bool
     ensures { result ≡ names_itself l s from }
 {
-    let sequence = l.sequence;
-    let valid = l.valid;
-    let start = valid.from;
-    both(same_sequence(s, sequence), same_group(from, start))
+    s == l.sequence && from == l.valid.from
 }
 
 fn good_cancellation(l: FirstLine, s: Sequence, from: Group) -> bool
     ensures { result ≡ good_cancellation l s from }
 {
-    let itself = names_itself(l, s, from);
-    both(good_sequence(s), both(good_group(from), !itself))
+    good_sequence(s) && good_group(from) && !names_itself(l, s, from)
 }
 
-fn good_form(form: Form, kind: u8, l: FirstLine, report: Report) -> bool
-    ensures { result ≡ good_form kind l report form }
-{
-    match form {
-        Form::NoForm => false,
-        Form::Test(n) => both(both(1 <= n, n <= 3), reporting::is_empty(report)),
-        Form::Cancellation(s, from) => both(
-            good_cancellation(l, s, from),
-            reporting::is_empty(report),
-        ),
-        Form::Reported => reporting::good(kind, report),
+impl Record {
+    #[tactic(auto, unfolding(crate::specs::Records::good_form))]
+    fn has_good_form(&self) -> bool
+        ensures { result ≡ good_form self.now.heading.designator.kind self.now.line self.now.report self.now.form }
+    {
+        match self.form {
+            Form::NoForm => false,
+            Form::Test(n) => matches!(n, 1..=3) && self.report.is_empty(),
+            Form::Cancellation(s, from) => good_cancellation(self.line, s, from)
+                && self.report.is_empty(),
+            Form::Reported => self.report.is_good(self.heading.designator.kind),
+        }
     }
 }
 
 // Is it a good record? Every other is a bad one.
+#[tactic(auto, unfolding(crate::specs::Records::good))]
 pub fn is_good(r: Record) -> bool
     ensures { result ≡ good r }
 {
-    let heading = r.heading;
-    let line = r.line;
-    let area = r.area;
-    let form = r.form;
-    let report = r.report;
-    let designator = heading.designator;
-    let body = good_form(form, designator.kind, line, report);
-    both(
-        good_heading(heading),
-        both(good_line(line), both(good_area(area), body)),
-    )
+    r.heading.is_good() && r.line.is_good() && r.area.is_good() && r.has_good_form()
 }

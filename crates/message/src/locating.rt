@@ -1,137 +1,92 @@
 // A location with the points of its outline.
-ghost use Rattle.std.specs.Prelude.{◌≡◌, ◌≤◌, take, drop};
-ghost use Rattle.lists.specs.Lists.{all_of};
+ghost use Rattle.std.specs.Prelude.{◌≡◌};
 ghost use Rattle.coordinates.specs.Coordinates.{north_south, east_west};
-ghost use Rattle.coordinates.specs.Points.{good_point, empty_point};
-ghost use Rattle.message.specs.Limits.{most_points};
-ghost use Rattle.message.specs.Locations.{good_side, empty_side, good_bound, no_points, closing_point, good_outline, good_extent, empty_extent};
+ghost use Rattle.message.specs.Locations.{good_side, empty_side, good_bound, no_points, good_outline, good_extent, empty_extent};
 
-use crate::{Bound, Extent, LEAST_POINTS, Location, MOST_POINTS, Side};
-use coordinates::{
-    Point, empty_coordinate, empty_point, good_latitude, good_longitude, good_point, same_point,
+use crate::{
+    Bound, Extent, LEAST_POINTS, Location, MOST_POINTS, NO_EXTENT, NO_POINTS, NO_SIDE, Side,
 };
-use lists::{both, either};
+use coordinates::{Point, empty_point, good_latitude, good_longitude, good_point, same_point};
 
-fn good_latitude_side(s: Side) -> bool
-    ensures { result ≡ good_side north_south s }
-{
-    let at = s.at;
-    both(either(s.of == b'N', s.of == b'S'), good_latitude(at))
-}
-
-fn good_longitude_side(s: Side) -> bool
-    ensures { result ≡ good_side east_west s }
-{
-    let at = s.at;
-    both(either(s.of == b'E', s.of == b'W'), good_longitude(at))
-}
-
-fn empty_side(s: Side) -> bool
-    ensures { result ≡ empty_side s }
-{
-    let at = s.at;
-    both(s.of == 0, empty_coordinate(at))
-}
-
-fn good_bound(b: Bound) -> bool
-    ensures { result ≡ good_bound b }
-{
-    let north = b.latitude;
-    let east = b.longitude;
-    if empty_side(north) {
-        return good_longitude_side(east);
+// Two functions and no generic one: letters and judge both differ, so that it would be longer than the two.
+impl Side {
+    #[tactic(auto, unfolding(crate::specs::Locations::good_side))]
+    fn is_latitude(&self) -> bool
+        ensures { result ≡ good_side north_south self.now }
+    {
+        matches!(self.of, b'N' | b'S') && good_latitude(self.at)
     }
-    let other = either(empty_side(east), good_longitude_side(east));
-    both(good_latitude_side(north), other)
+
+    #[tactic(auto, unfolding(crate::specs::Locations::good_side))]
+    fn is_longitude(&self) -> bool
+        ensures { result ≡ good_side east_west self.now }
+    {
+        matches!(self.of, b'E' | b'W') && good_longitude(self.at)
+    }
+
+    fn is_empty(&self) -> bool
+        ensures { result ≡ empty_side self.now }
+    {
+        *self == NO_SIDE
+    }
 }
 
-// The points from a place on are all empty.
-fn empty_from(points: [Point; MOST_POINTS], start: usize) -> bool
-    ensures { result ≡ all_of empty_point (drop start points) }
-{
-    let mut i = start;
-    while i < MOST_POINTS {
-        if !empty_point(points[i]) {
-            return false;
+impl Bound {
+    #[tactic(auto, unfolding(crate::specs::Locations::good_bound))]
+    fn is_good(&self) -> bool
+        ensures { result ≡ good_bound self.now }
+    {
+        let Bound {
+            latitude,
+            longitude,
+        } = self;
+        if latitude.is_empty() {
+            longitude.is_longitude()
+        } else {
+            latitude.is_latitude() && (longitude.is_empty() || longitude.is_longitude())
         }
-        i += 1;
     }
-    true
 }
 
-// The first n points are all good.
-fn good_until(points: [Point; MOST_POINTS], n: usize) -> bool
-    requires { n ≤ most_points }
-    ensures { result ≡ all_of good_point (take n points) }
+fn no_points(points: &[Point; MOST_POINTS]) -> bool
+    ensures { result ≡ no_points points.now }
 {
-    let mut i = 0;
-    while i < n {
-        if !good_point(points[i]) {
-            return false;
-        }
-        i += 1;
-    }
-    true
+    *points == NO_POINTS
 }
 
-// The place of the first later point that is the same as the first.
-fn closing_point(points: [Point; MOST_POINTS]) -> usize
-    ensures { result ≡ closing_point points }
+#[tactic(auto, unfolding(crate::specs::Locations::good_outline))]
+fn good_outline(n: u8, points: &[Point; MOST_POINTS]) -> bool
+    ensures { result ≡ good_outline n points.now }
 {
+    let count = usize::from(n);
+    if count < LEAST_POINTS || MOST_POINTS < count {
+        return false;
+    }
+    let (written, unused) = points.split_at(count);
+    // The first later point that is the same as the first closes the outline.
     let first = points[0];
-    let mut i = 1;
-    while i < MOST_POINTS {
-        if same_point(first, points[i]) {
-            return i;
+    let closing = points[1..].iter().position(|p| same_point(first, *p));
+    written.iter().all(|p| good_point(*p))
+        && (closing == Some(count - 2) && unused.iter().all(|p| empty_point(*p)))
+}
+
+impl Extent {
+    #[tactic(auto, unfolding(crate::specs::Locations::good_extent))]
+    pub(crate) fn is_good(&self) -> bool
+        ensures { result ≡ good_extent self.now }
+    {
+        let points = &self.points;
+        match self.location {
+            Location::Nowhere => false,
+            Location::Bounded(b) => b.is_good() && no_points(points),
+            Location::Outline(n) => good_outline(n, points),
+            Location::Entire => no_points(points),
         }
-        i += 1;
     }
-    i
-}
 
-fn no_points(points: [Point; MOST_POINTS]) -> bool
-    ensures { result ≡ no_points points }
-{
-    empty_from(points, 0)
-}
-
-fn good_outline(n: u8, points: [Point; MOST_POINTS]) -> bool
-    ensures { result ≡ good_outline n points }
-{
-    let count = n as usize;
-    if count < LEAST_POINTS {
-        return false;
-    }
-    if MOST_POINTS < count {
-        return false;
-    }
-    let written = good_until(points, count);
-    let closed = closing_point(points) == count - 1;
-    both(written, both(closed, empty_from(points, count)))
-}
-
-pub(crate) fn good(p: Extent) -> bool
-    ensures { result ≡ good_extent p }
-{
-    let location = p.location;
-    let points = p.points;
-    match location {
-        Location::Nowhere => false,
-        Location::Bounded(b) => both(good_bound(b), no_points(points)),
-        Location::Outline(n) => good_outline(n, points),
-        Location::Entire => no_points(points),
-    }
-}
-
-pub(crate) fn is_empty(p: Extent) -> bool
-    ensures { result ≡ empty_extent p }
-{
-    let location = p.location;
-    let points = p.points;
-    match location {
-        Location::Nowhere => no_points(points),
-        Location::Bounded(_) => false,
-        Location::Outline(_) => false,
-        Location::Entire => false,
+    pub(crate) fn is_empty(&self) -> bool
+        ensures { result ≡ empty_extent self.now }
+    {
+        *self == NO_EXTENT
     }
 }

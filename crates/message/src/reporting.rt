@@ -1,137 +1,98 @@
 // A report: phenomenon, observation, location, level and ending.
 ghost use Rattle.std.specs.Prelude.{◌≡◌};
 ghost use Rattle.motions.specs.Motions.{good_intensity};
-ghost use Rattle.message.specs.Reports.{good_volcano, empty_volcano, good_phenomenon, good_observation, empty_observation, good_ending, empty_ending, good_report, empty_report};
+ghost use Rattle.message.specs.Reports.{good_volcano, empty_volcano, good_phenomenon, good_observation, good_ending, good_report, empty_report};
 
 use crate::{
-    ASH_CLOUD, ASH_ERUPTION, Ending, Extent, FORECAST, MOUNTAIN_BYTES, OBSERVED, Observation,
-    RDOACT_CLD, Report, Volcano, locating, naming,
+    ASH_CLOUD, ASH_ERUPTION, Ending, FORECAST, MOUNTAIN_BYTES, NO_REPORT, NO_VOLCANO, OBSERVED,
+    Observation, RDOACT_CLD, Report, UNTIMED, Volcano,
 };
-use coordinates::{empty_point, good_point};
+use coordinates::good_point;
 use groups::good_time;
 use headings::{KIND_WS, KIND_WV};
-use levels::{empty_level, good_level};
-use lists::{both, either};
+use levels::good_level;
 use motions::{NO_COMPASS, good_speed};
 
-fn good_volcano(v: Volcano) -> bool
-    ensures { result ≡ good_volcano v }
-{
-    let mount = v.name;
-    let position = v.position;
-    let named = either(
-        naming::is_empty(mount),
-        naming::good(mount, true, MOUNTAIN_BYTES),
-    );
-    both(named, good_point(position))
-}
-
-fn empty_volcano(v: Volcano) -> bool
-    ensures { result ≡ empty_volcano v }
-{
-    let mount = v.name;
-    let position = v.position;
-    both(naming::is_empty(mount), empty_point(position))
-}
-
-fn good_phenomenon(kind: u8, n: u8, v: Volcano) -> bool
-    ensures { result ≡ good_phenomenon kind n v }
-{
-    let quiet = empty_volcano(v);
-    let weather = both(kind == KIND_WS, both(both(1 <= n, n <= RDOACT_CLD), quiet));
-    let cloud = both(n == ASH_CLOUD, quiet);
-    let eruption = both(n == ASH_ERUPTION, good_volcano(v));
-    either(weather, both(kind == KIND_WV, either(cloud, eruption)))
-}
-
-fn good_observation(o: Observation) -> bool
-    ensures { result ≡ good_observation o }
-{
-    let word = both(OBSERVED <= o.word, o.word <= FORECAST);
-    let time = o.time;
-    if o.timed {
-        return both(word, good_time(time));
+impl Volcano {
+    #[tactic(auto, unfolding(crate::specs::Reports::good_volcano))]
+    fn is_good(&self) -> bool
+        ensures { result ≡ good_volcano self.now }
+    {
+        let Volcano { name, position } = self;
+        (name.is_empty() || name.is_good(true, MOUNTAIN_BYTES)) && good_point(*position)
     }
-    both(word, both(time.hour == 0, time.minute == 0))
-}
 
-fn empty_observation(o: Observation) -> bool
-    ensures { result ≡ empty_observation o }
-{
-    let time = o.time;
-    if o.timed {
-        return false;
+    fn is_empty(&self) -> bool
+        ensures { result ≡ empty_volcano self.now }
+    {
+        *self == NO_VOLCANO
     }
-    both(o.word == 0, both(time.hour == 0, time.minute == 0))
 }
 
+impl Observation {
+    #[tactic(auto, unfolding(crate::specs::Reports::good_observation))]
+    fn is_good(&self) -> bool
+        ensures { result ≡ good_observation self.now }
+    {
+        let Observation { word, timed, time } = *self;
+        let told = if timed {
+            good_time(time)
+        } else {
+            time == UNTIMED
+        };
+        matches!(word, OBSERVED | FORECAST) && told
+    }
+}
+
+#[tactic(auto, unfolding(motions::specs::Motions::intensity_words))]
 fn good_intensity(n: u8) -> bool
     ensures { result ≡ good_intensity n }
 {
-    both(1 <= n, n <= 3)
+    matches!(n, 1..=3)
 }
 
-fn good_ending(kind: u8, e: Ending, f: Extent) -> bool
-    ensures { result ≡ good_ending kind e f }
-{
-    match e {
-        Ending::NoEnding => false,
-        Ending::Moving(point, s, n) => both(
-            both(point < NO_COMPASS, both(good_speed(s), good_intensity(n))),
-            locating::is_empty(f),
-        ),
-        Ending::Stationary(n) => both(good_intensity(n), locating::is_empty(f)),
-        Ending::Forecast(n) => both(both(kind == KIND_WS, good_intensity(n)), locating::good(f)),
+// Each in a bulletin of that kind.
+impl Report {
+    #[tactic(auto, unfolding(crate::specs::Reports::good_phenomenon))]
+    fn has_good_phenomenon(&self, kind: u8) -> bool
+        ensures { result ≡ good_phenomenon kind self.now.phenomenon self.now.volcano }
+    {
+        match (kind, self.phenomenon) {
+            (KIND_WS, 1..=RDOACT_CLD) | (KIND_WV, ASH_CLOUD) => self.volcano.is_empty(),
+            (KIND_WV, ASH_ERUPTION) => self.volcano.is_good(),
+            _ => false,
+        }
     }
-}
 
-fn empty_ending(e: Ending) -> bool
-    ensures { result ≡ empty_ending e }
-{
-    match e {
-        Ending::NoEnding => true,
-        Ending::Moving(_, _, _) => false,
-        Ending::Stationary(_) => false,
-        Ending::Forecast(_) => false,
+    #[tactic(auto, unfolding(crate::specs::Reports::good_ending, motions::specs::Motions::compass_words))]
+    fn has_good_ending(&self, kind: u8) -> bool
+        ensures { result ≡ good_ending kind self.now.ending self.now.forecast }
+    {
+        let forecast = &self.forecast;
+        match self.ending {
+            Ending::NoEnding => false,
+            Ending::Moving(point, s, n) => {
+                point < NO_COMPASS && good_speed(s) && good_intensity(n) && forecast.is_empty()
+            }
+            Ending::Stationary(n) => good_intensity(n) && forecast.is_empty(),
+            Ending::Forecast(n) => kind == KIND_WS && good_intensity(n) && forecast.is_good(),
+        }
     }
-}
 
-pub(crate) fn good(kind: u8, r: Report) -> bool
-    ensures { result ≡ good_report kind r }
-{
-    let volcano = r.volcano;
-    let observation = r.observation;
-    let extent = r.extent;
-    let level = r.level;
-    let ending = r.ending;
-    let forecast = r.forecast;
-    let end = both(good_level(level), good_ending(kind, ending, forecast));
-    let middle = both(
-        good_observation(observation),
-        both(locating::good(extent), end),
-    );
-    both(good_phenomenon(kind, r.phenomenon, volcano), middle)
-}
+    #[tactic(auto, unfolding(crate::specs::Reports::good_report))]
+    pub(crate) fn is_good(&self, kind: u8) -> bool
+        ensures { result ≡ good_report kind self.now }
+    {
+        self.has_good_phenomenon(kind)
+            && self.observation.is_good()
+            && self.extent.is_good()
+            && good_level(self.level)
+            && self.has_good_ending(kind)
+    }
 
-pub(crate) fn is_empty(r: Report) -> bool
-    ensures { result ≡ empty_report r }
-{
-    let volcano = r.volcano;
-    let observation = r.observation;
-    let extent = r.extent;
-    let level = r.level;
-    let ending = r.ending;
-    let forecast = r.forecast;
-    let phenomenon = both(r.phenomenon == 0, empty_volcano(volcano));
-    let end = both(
-        empty_level(level),
-        both(empty_ending(ending), locating::is_empty(forecast)),
-    );
-    both(
-        phenomenon,
-        both(
-            empty_observation(observation),
-            both(locating::is_empty(extent), end),
-        ),
-    )
+    pub(crate) fn is_empty(&self) -> bool
+        ensures { result ≡ empty_report self.now }
+    {
+        *self == NO_REPORT
+    }
 }

@@ -10,7 +10,7 @@ use figures::{code, find, two};
 use lists::both;
 
 // 1 to 99, in 1 knots or 2 kilometres an hour.
-#[derive(Clone, Copy)]
+#[derive(Clone, Copy, PartialEq, Eq)]
 pub struct Speed {
     pub value: u8,
     pub unit: u8,
