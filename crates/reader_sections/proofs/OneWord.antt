@@ -1,104 +1,186 @@
--- One word of a kind: what the code has found of it, said as an equation of runs.
+-- One word at a step, said as an equation of replies.
 use mathlib.Core.Bool.{Bool, true, false}
-use mathlib.Core.List.{List}
-use mathlib.Core.Logic.◌⊎◌.{inl, inr}
-use mathlib.Core.Logic.{◌⊎◌}
+use mathlib.Core.List.{List, [], ◌∷◌}
 use mathlib.Core.Path.{◌≡◌, refl, ap, sym, ◌∙◌}
-use Prim.Native.Nat.{ℕ, ◌≤◌, ◌<◌}
+use Prim.Native.Nat.{ℕ, ◌-◌, ◌≤◌, ◌<◌}
 use native.Mathlib.Omega.{arith}
 use lib.Dec.{eqb}
 use lib.ListN.{length}
-use borrow.Author.Tests.{ne_eqb}
-use Rattle.lists.specs.Choice.{pick}
+use borrow.Author.Tests.{eq-eqb, ne_eqb}
+use Rattle.std.specs.Prelude.{Option, None, Some, Result, Ok, Err}
+use Rattle.lists.specs.Choice.{pick, found}
 use Rattle.lists.specs.Lists.{part, same}
-use Rattle.lists.proofs.Choice.{by}
-use Rattle.words.specs.Words.{equals_sign, span_of, word_from}
-use Rattle.words.proofs.NextWord.{text-or-equals, span-moves}
-use Rattle.figures.specs.Reads.{Reads}
+use Rattle.lists.proofs.Choice.{by, clash, both-false-right}
+use Rattle.lists.proofs.Found.{some-good, some-is, none-bad}
+use Rattle.words.specs.declared.Span.{Span}
+use Rattle.words.specs.Words.{equals_sign, span_of, word_from, length_at}
+use Rattle.words.proofs.NextWord.{text-or-equals, span-moves, length-equals, length-word}
+use Rattle.figures.specs.Codes.{code_of, FixedWord}
+use Rattle.figures.proofs.CodeLaws.{same_code}
 use Rattle.message.specs.declared.Record.{Record}
+use Rattle.grammar.specs.Bulletins.{acceptance, refusal}
 use Rattle.grammar.specs.Numbers.{number_of}
+use Rattle.grammar.specs.Reads.{reply_of}
 use Rattle.grammar.specs.Runs.Ran.{accepted, refused}
-use Rattle.grammar.specs.Runs.{Ran, run_at}
+use Rattle.grammar.specs.Runs.{run_at}
 use Rattle.grammar.specs.States.Move.{goes, dead}
 use Rattle.grammar.specs.States.State.{at_end}
 use Rattle.grammar.specs.States.{State}
 use Rattle.grammar.specs.Steps.{goes_if, step}
-use Rattle.grammar.proofs.NumberLaws.{number-range}
-use Rattle.reader_sections.specs.Steps.{WordAt}
-use Rattle.reader_sections.proofs.RunsAt.{OnlyWords, part-test, part-passes, in-text, dead-at, same_at, goes_at, done_at, undone-at}
+use Rattle.reader_sections.specs.declared.parts.Part.{Part}
+use Rattle.reader_sections.specs.declared.parts.Part.TheVariants.{End}
+use Rattle.reader_sections.specs.declared.step.Refused.{Refused}
+use Rattle.reader_sections.specs.declared.step.Step.{Step}
+use Rattle.reader_sections.specs.Parts.{part_number}
+use Rattle.reader_sections.specs.Standing.{WordAt}
+use Rattle.reader_sections.specs.Steps.{next_word, word_on, Before, Next, Refuses, Required, Fixed, Long, Perhaps, Ended, reply_on, Reaches, Ends}
+use Rattle.reader_sections.proofs.RunsAt.{OnlyWords, part-test, part-passes, in-text, dead-at, same_at, goes_at, done_at, undone-at, skip}
 
--- the run goes on from that place in that state, or the word at that place is refused by that number
-abbrev goes_on : ℕ → ℕ → State → List ℕ → Ran
-goes_on number place s t = pick (eqb number 0) (run_at s t place) (refused number place)
+standing : (p : Step) → p.place ≤ length p.text.now
+standing p = omega (arith, p.stands.ordered, p.stands.within)
 
--- what one word does to the run from a place in a state
-pub record Goes (s : State) (t : List ℕ) (at number place : ℕ) (next : State) : Type 0 where
-  pub says : run_at s t at ≡ goes_on number place next t
+-- how long the next word is
+abbrev span : Step → Span
+span p = record { start = p.place; end = p.end }
 
--- a refusal by a state's number is none of number 0
-refused-on : (s : State) (n p : ℕ) (next : State) (t : List ℕ) → number_of s ≡ n → refused (number_of s) p ≡ goes_on n p next t
-refused-on s n p next t e = rw (sym e, ne_eqb (number_of s) 0 (λ z. omega (arith, (number-range s).low)))
+is-span : (p : Step) → span p ≡ span_of p.text.now p.place
+is-span p = λ i. record { start = p.stands.starts i; end = p.stands.ends i }
 
-module _ {t : List ℕ} {at start end : ℕ} (h : at ≤ length t) (w : WordAt t at start end) where
-  -- the word, one of the text, moves the machine on
-  pub goes-word : (s next : State) → start < length t → step s (word_from t at) ≡ goes next → Goes s t at 0 end next
-  goes-word s next l k = record { says = goes_at s next t at (rw w.starts at l) k ∙ ap (run_at next t) (sym w.ends) }
+pub length-equals-sign : (p : Step) → p.end - p.place ≡ 0 → 1 ≡ length_at p.text.now p.place
+length-equals-sign p e = length-equals p.text.now p.place (is-span p) (omega (arith, p.stands.ordered))
 
-  -- the word is refused, by the number of the state
-  pub dead-word : (s next : State) (refusal : ℕ) → number_of s ≡ refusal → step s (word_from t at) ≡ dead → Goes s t at refusal start next
-  dead-word s next refusal e k = record {
-    says = dead-at s t at h k ∙ ap (refused (number_of s)) (sym w.starts) ∙ refused-on s refusal start next t e;
-  }
+pub length-of-word : (p : Step) → (p.end - p.place ≡ 0 → ⊥) → p.end - p.place ≡ length_at p.text.now p.place
+length-of-word p n = length-word p.text.now p.place (is-span p) (omega (arith, p.stands.ordered))
 
-  -- the word stays for another state
-  pub same_word : (s next : State) → number_of s ≡ number_of next → step s (word_from t at) ≡ step next (word_from t at) → Goes s t at 0 at next
-  same_word s next n k = record { says = same_at s next t at h k n }
+-- A word of the text moves the machine on, …
+pub reaches : {s next : State} {from to : Step} → Next from to → from.place < length from.text.now → step s (next_word from) ≡ goes next → Reaches s from next to
+reaches {s} {next} {from} {to} n inside k =
+    let t : List ℕ = from.text.now in
+    record {
+      says = ap (reply_of t) (goes_at s next t from.place (rw from.stands.starts at inside) k ∙ (ap (run_at next t) (sym from.stands.ends) ∙ (skip next t from.end ∙ ap (run_at next t) (sym n.is.placed))))
+          ∙ ap (λ (u : List ℕ). reply_of u (run_at next u to.place)) (sym n.is.text);
+    }
 
-  -- a word of a kind, by its value
-  module _ {A : Type 0} (read : List ℕ → A) (good : A → Bool) {v : A} (e : v ≡ read (part start end t)) (s : State) (next : A → State)
-      (k : step s (word_from t at) ≡ goes_if (good (read (word_from t at))) (next (read (word_from t at)))) where
-    module _ (o : OnlyWords (λ (x : List ℕ). good (read x))) where
-      pub good-word : good v ≡ true → Goes s t at 0 end (next v)
-      good-word g =
-          let passes : good (read (part start end t)) ≡ true = ap good (sym e) ∙ g in
-          let is : v ≡ read (word_from t at) = e ∙ ap read (part-passes h w o passes) in
-          let yes : good (read (word_from t at)) ≡ true = ap good (sym is) ∙ g in
-          goes-word s (next v) (in-text h w o yes) (k ∙ rw (yes, is))
+-- … stays for another state, …
+pub stays : {s other : State} {from : Step} → number_of s ≡ number_of other → step s (next_word from) ≡ step other (next_word from) → Reaches s from other from
+stays {s} {other} {from} n k = record { says = ap (reply_of from.text.now) (same_at s other from.text.now from.place (standing from) k n) }
 
-      pub bad-word : {refusal : ℕ} → number_of s ≡ refusal → good v ≡ false → Goes s t at refusal start (next v)
-      bad-word n g =
-          let no : good (read (word_from t at)) ≡ false = sym (part-test h w o) ∙ (ap good (sym e) ∙ g) in
-          dead-word s (next v) _ n (k ∙ rw no)
+-- … or is refused
+pub ends : {s : State} {part : Part} {from : Step} {e : Refused} → Refuses part from e → number_of s ≡ part_number part → step s (next_word from) ≡ dead → Ends s from e
+ends {s} {part} {from} {e} r n k =
+    let t : List ℕ = from.text.now in
+    record {
+      says = ap (reply_of t) (dead-at s t from.place (standing from) k ∙ ap (refused (number_of s)) (sym from.stands.starts))
+          ∙ λ i. refusal ((n ∙ ap part_number (sym r.kept)) i) (sym r.at i) (sym r.long i);
+    }
 
--- what a number field tells of a word: its value is none exactly where the field is that of none
-module _ {A : Type 0} {read : List ℕ → A} {spell : A → List ℕ} {good : A → Bool} {none : A} (r : Reads read spell good none) (field : A → ℕ)
-    (tells : (v : A) → good v ≡ true → field v ≡ field none → ⊥) where
-  pub field-no : (w : List ℕ) (v : A) → v ≡ read w → field v ≡ field none → good v ≡ false
-  field-no w v e z = go (r.back w)
-    where
-      go : (read w ≡ none) ⊎ ((good (read w) ≡ true) × (spell (read w) ≡ w)) → good v ≡ false
-      go (inl p) = rw (e, p) r.refuses
-      go (inr q) = absurd (tells v (rw e q.0) z)
+-- A required word of a kind: what the machine does with it in a state.
+pub record Accepts {A : Type 0} (s : State) (part : Part) (read : List ℕ → A) (good : A → Bool) (next : A → State) (w : List ℕ) : Type 0 where
+  pub does : step s w ≡ goes_if (good (read w)) (next (read w))
+  pub number : number_of s ≡ part_number part
+  pub only : OnlyWords (λ (x : List ℕ). good (read x))
 
-  pub field-yes : (w : List ℕ) (v : A) → v ≡ read w → (field v ≡ field none → ⊥) → good v ≡ true
-  field-yes w v e z = go (r.back w)
-    where
-      go : (read w ≡ none) ⊎ ((good (read w) ≡ true) × (spell (read w) ≡ w)) → good v ≡ true
-      go (inl p) = absurd (z (ap field (e ∙ p)))
-      go (inr q) = rw e q.0
+module _ {A : Type 0} {s : State} {part : Part} {read : List ℕ → A} {good : A → Bool} {next : A → State} (from : Step)
+    (a : Accepts s part read good next (next_word from)) {w : List ℕ} {value : Option A} (e : w ≡ word_on from) (is : value ≡ found good (read w)) where
+  test : good (read (word_on from)) ≡ good (read (next_word from))
+  test = part-test (standing from) from.stands a.only
 
-module _ {t : List ℕ} {at start end : ℕ} (h : at ≤ length t) (w : WordAt t at start end) where
-  -- the `=` ends the message
-  pub end-yes : start ≡ end → (r : Record) → run_at (at_end r) t at ≡ accepted r
+  pub took : {v : A} {to : Step} → Required part from value (Ok (v, to)) → Reaches s from (next v) to
+  took {v} {to} r =
+      let some : Some v ≡ found good (read w) = sym r.is.0 ∙ is in
+      let yes : good (read (word_on from)) ≡ true = rw e at (some-good good some) in
+      let word : word_on from ≡ next_word from = part-passes (standing from) from.stands a.only yes in
+      let v-is : v ≡ read (next_word from) = some-is good some ∙ ap read (e ∙ word) in
+      reaches r.is.1 (in-text (standing from) from.stands a.only (sym test ∙ yes)) (a.does ∙ rw (sym test ∙ yes, v-is))
+
+  pub missed : {e : Refused} → Required part from value (Err e) → Ends s from e
+  missed r = let no : good (read (word_on from)) ≡ false = rw e at (none-bad good (sym r.is.0 ∙ is)) in ends r.is.1 a.number (a.does ∙ rw (sym test ∙ no))
+
+-- neither the empty word nor the `=` is a fixed one
+only-fixed : {k : List ℕ} {m : ℕ} → FixedWord k m → OnlyWords (λ (w : List ℕ). same w k)
+only-fixed x = record { empty = x.some; sign = x.no_sign }
+
+-- A fixed word is told by its code.
+module _ {k : List ℕ} {m : ℕ} (x : FixedWord k m) (from : Step) where
+  tells : eqb (code_of (word_on from)) m ≡ same (next_word from) k
+  tells = rw (sym x.has) (same_code (word_on from) k x.is-short) ∙ part-test (standing from) from.stands (only-fixed x)
+
+  pub code-yes : code_of (word_on from) ≡ m → same (next_word from) k ≡ true
+  code-yes y = sym tells ∙ eq-eqb _ m y
+
+  pub code-no : (code_of (word_on from) ≡ m → ⊥) → same (next_word from) k ≡ false
+  code-no y = sym tells ∙ ne_eqb _ m y
+
+  pub with-word : {s next : State} {to : Step} → code_of (word_on from) ≡ m → Next from to → (same (next_word from) k ≡ true → step s (next_word from) ≡ goes next)
+      → Reaches s from next to
+  with-word y n i = reaches n (in-text (standing from) from.stands (only-fixed x) (code-yes y)) (i (code-yes y))
+
+-- A required fixed word.
+pub record AcceptsFixed (s : State) (part : Part) (code : ℕ) (next : State) (w : List ℕ) : Type 0 where
+  pub word : List ℕ
+  pub fixed : FixedWord word code
+  pub does : step s w ≡ goes_if (same w word) next
+  pub number : number_of s ≡ part_number part
+
+module _ {s : State} {part : Part} {code : ℕ} {next : State} {from : Step} (a : AcceptsFixed s part code next (next_word from)) where
+  pub took-fixed : {to : Step} → Fixed part code from (Ok to) → Reaches s from next to
+  took-fixed r = with-word a.fixed from r.is.0 r.is.1 (λ y. a.does ∙ rw y)
+
+  pub missed-fixed : {e : Refused} → Fixed part code from (Err e) → Ends s from e
+  missed-fixed r = ends r.is.1 a.number (a.does ∙ rw (code-no a.fixed from r.is.0))
+
+-- … of more than seven bytes: neither the empty word nor the `=` is one
+only-long : (k : List ℕ) → 1 < length k → OnlyWords (λ (w : List ℕ). same w k)
+unfolding same
+only-long [] h = absurd (omega arith)
+only-long (x ∷ []) h = absurd (omega arith)
+only-long (x ∷ y ∷ k) h = record { empty = refl; sign = both-false-right (eqb 61 x) refl }
+
+pub record AcceptsLong (s : State) (part : Part) (wanted : List ℕ) (next : State) (w : List ℕ) : Type 0 where
+  pub does : step s w ≡ goes_if (same w wanted) next
+  pub number : number_of s ≡ part_number part
+  pub some : 1 < length wanted
+
+module _ {s : State} {part : Part} {wanted : List ℕ} {next : State} (from : Step) (a : AcceptsLong s part wanted next (next_word from)) where
+  test-long : same (word_on from) wanted ≡ same (next_word from) wanted
+  test-long = part-test (standing from) from.stands (only-long wanted a.some)
+
+  pub took-long : {to : Step} → Long part wanted from (Ok to) → Reaches s from next to
+  took-long r =
+      let yes : same (next_word from) wanted ≡ true = sym test-long ∙ r.is.0 in
+      reaches r.is.1 (in-text (standing from) from.stands (only-long wanted a.some) yes) (a.does ∙ rw yes)
+
+  pub missed-long : {e : Refused} → Long part wanted from (Err e) → Ends s from e
+  missed-long r = ends r.is.1 a.number (a.does ∙ rw (sym test-long ∙ r.is.0))
+
+-- Perhaps a fixed word.
+module _ {k : List ℕ} {m : ℕ} (x : FixedWord k m) {from : Step} where
+  pub given : {s next : State} {to : Step} → Perhaps m from (Some to) → (same (next_word from) k ≡ true → step s (next_word from) ≡ goes next) → Reaches s from next to
+  given r i = with-word x from r.is.0 r.is.1 i
+
+  pub left_out : {s other : State} → Perhaps m from None → number_of s ≡ number_of other
+      → (same (next_word from) k ≡ false → step s (next_word from) ≡ step other (next_word from)) → Reaches s from other from
+  left_out r n i = stays n (i (code-no x from r.is))
+
+-- The `=`.
+module _ {from : Step} (m : Record) where
+  pub end-yes : {u : Unit} → Ended from (Ok u) → reply_on (at_end m) from ≡ acceptance m
   unfolding step same
-  end-yes e r = text-or-equals t at
-      (λ k. absurd (omega (arith, span-moves t at k, w.starts, w.ends)))
-      (λ k. done_at (at_end r) r t at h k refl)
+  end-yes r =
+      let t : List ℕ = from.text.now in
+      ap (reply_of t) (text-or-equals t from.place
+          (λ k. absurd (omega (arith, span-moves t from.place k, from.stands.starts, from.stands.ends, r.is)))
+          (λ k. done_at (at_end m) m t from.place (standing from) k refl))
 
-  -- a word where only the `=` may stand
-  pub end-no : (start ≡ end → ⊥) → (r : Record) → run_at (at_end r) t at ≡ refused 12 start
+  pub end-no : {e : Refused} → Ended from (Err e) → Ends (at_end m) from e
   unfolding step
-  end-no e r =
-      let inside : (span_of t at).start < length t = omega (arith, w.ordered, w.within, w.starts) in
-      by (same (word_from t at) equals_sign) (λ y. undone-at (at_end r) r t at h inside (rw y)) (λ y. dead-at (at_end r) t at h (rw y))
-      ∙ ap (refused 12) (sym w.starts)
+  end-no r =
+      let t : List ℕ = from.text.now in
+      let other : from.place ≡ from.end → ⊥ = r.is.0 in
+      let inside : (span_of t from.place).start < length t = omega (arith, from.stands.ordered, from.stands.within, from.stands.starts) in
+      record {
+        says = ap (reply_of t)
+            (by (same (next_word from) equals_sign) (λ y. undone-at (at_end m) m t from.place (standing from) inside (rw y)) (λ y. dead-at (at_end m) t from.place (standing from) (rw y))
+            ∙ ap (refused 12) (sym from.stands.starts))
+            ∙ λ i. refusal (ap part_number (sym r.is.1.kept) i) (sym r.is.1.at i) (sym r.is.1.long i);
+      }

@@ -19,7 +19,7 @@ use Rattle.grammar.specs.Runs.{run, run_at}
 use Rattle.grammar.specs.States.Move.{goes, done, dead}
 use Rattle.grammar.specs.States.{State}
 use Rattle.grammar.specs.Steps.{step}
-use Rattle.reader_sections.specs.Steps.{WordAt}
+use Rattle.reader_sections.specs.Standing.{WordAt}
 
 pub word-at-within : (t : List ℕ) (at : ℕ) (r : Span) → r ≡ span_of t at → at ≤ length t → WordAt t at r.start r.end
 word-at-within t at r e h =

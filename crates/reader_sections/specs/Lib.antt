@@ -1,9 +1,11 @@
+pub mod Standing
+pub mod Parts
 pub mod Steps
+pub mod Replies
 pub mod Openings
 pub mod Names
-pub mod Forms
 pub mod Phenomena
+pub mod Reports
 pub mod Locations
 pub mod Outlines
 pub mod Endings
-pub mod Reports

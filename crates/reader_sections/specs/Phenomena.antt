@@ -1,39 +1,28 @@
--- The phenomenon, as equations of runs.
+-- The phenomenon: what comes after it, and what is read where the word is judged as one.
 -- Internal contract.
-use Rattle.std.specs.Prelude.{List, ◌≡◌, ℕ}
-use Rattle.words.specs.Words.{word_from}
-use Rattle.message.specs.declared.Name.{Name}
+use Rattle.std.specs.Prelude.{Result, ◌≡◌, ℕ}
 use Rattle.message.specs.declared.Volcano.{Volcano}
+use Rattle.message.specs.Limits.{eruption}
 use Rattle.grammar.specs.Placing.{is}
-use Rattle.grammar.specs.States.State.{at_form, at_ash, at_eruption, at_position, at_observation}
+use Rattle.grammar.specs.States.State.{at_form, at_ash, at_observation}
 use Rattle.grammar.specs.States.{ToArea, State}
 use Rattle.grammar.specs.Steps.{goes_if, weather, step_weather, step}
-use Rattle.reader_sections.specs.declared.steps.Step.{Step}
-use Rattle.reader_sections.specs.Steps.{Stands, Leads}
+use Rattle.reader_sections.specs.declared.step.Refused.{Refused}
+use Rattle.reader_sections.specs.declared.step.Step.{Step}
+use Rattle.reader_sections.specs.Steps.{next_word, Leads}
 
--- the rest of a WS's phenomenon, after its first word
-pub record WeatherFrom (first : ToArea → State) (t : List ℕ) (from to : Step) (phenomenon : ℕ) : Type 0 where
-  pub says : (o : ToArea) → Leads (first o) t from to (at_observation (weather o phenomenon))
-  pub stands : Stands t to
+-- after the phenomenon of a WS, after an eruption, and after either
+abbrev pub observing : ToArea → ℕ → State
+observing o n = at_observation (weather o n)
 
--- the phenomenon of a WS, where the word is judged as such
-pub record WeatherSays (t : List ℕ) (from to : Step) (phenomenon : ℕ) : Type 0 where
-  pub says : (o : ToArea) → (from.number ≡ 0 → step (at_form o) (word_from t from.place) ≡ step_weather o (word_from t from.place))
-      → Leads (at_form o) t from to (at_observation (weather o phenomenon))
-  pub stands : Stands t to
+abbrev pub erupting : ToArea → Volcano → State
+erupting o v = at_observation (record { before = o; phenomenon = eruption; volcano = v })
 
--- "perhaps `MT` and a name (…), `PSN`"
-pub record MountainSays (t : List ℕ) (from to : Step) (name : Name) : Type 0 where
-  pub says : (o : ToArea) → Leads (at_eruption o) t from to (at_position o name)
-  pub stands : Stands t to
+abbrev pub seen : ToArea → ℕ × Volcano → State
+seen o p = at_observation (record { before = o; phenomenon = p.0; volcano = p.1 })
 
-pub record EruptionSays (t : List ℕ) (from to : Step) (phenomenon : ℕ) (v : Volcano) : Type 0 where
-  pub says : (o : ToArea)
-      → Leads (at_eruption o) t from to (at_observation (record { before = o; phenomenon = phenomenon; volcano = v }))
-  pub stands : Stands t to
+pub record WeatherSays (from : Step) (r : Result (ℕ × Step) Refused) : Type 0 where
+  pub says : (o : ToArea) → step (at_form o) (next_word from) ≡ step_weather o (next_word from) → Leads (at_form o) from r (observing o)
 
--- the phenomenon of a WV, where the word is judged as such
-pub record AshSays (t : List ℕ) (from to : Step) (phenomenon : ℕ) (v : Volcano) : Type 0 where
-  pub says : (o : ToArea) → (from.number ≡ 0 → step (at_form o) (word_from t from.place) ≡ goes_if (is "VA" (word_from t from.place)) (at_ash o))
-      → Leads (at_form o) t from to (at_observation (record { before = o; phenomenon = phenomenon; volcano = v }))
-  pub stands : Stands t to
+pub record AshSays (from : Step) (r : Result ((ℕ × Volcano) × Step) Refused) : Type 0 where
+  pub says : (o : ToArea) → step (at_form o) (next_word from) ≡ goes_if (is "VA" (next_word from)) (at_ash o) → Leads (at_form o) from r (seen o)

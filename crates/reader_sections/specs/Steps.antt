@@ -1,101 +1,115 @@
--- A section leads from one step to another. A step is a number, a place and an end: number 0 says that the run of the grammar's machine goes on from that
--- place, any other number that the word at that place was refused. A section's contract is then an equation of runs at two steps, or
--- of a reply with the run at one; and a step once refused stays refused.
+-- One word at a step, and what a section of the reader leads to: equations of the replies to the text, from a step on.
 -- Internal contract.
-use Rattle.std.specs.Prelude.{Bool, true, false, List, ◌≡◌, ℕ, ◌≤◌, eqb, length}
-use Rattle.lists.specs.Choice.{pick}
+use Rattle.std.specs.Prelude.{Bool, true, false, Option, None, Some, Result, Ok, Err, List, ◌≡◌, ℕ}
 use Rattle.lists.specs.Lists.{part, same}
-use Rattle.words.specs.Words.{span_of, word_from}
-use Rattle.figures.specs.Codes.{FixedWord}
+use Rattle.words.specs.Words.{span_of, word_from, length_at}
+use Rattle.figures.specs.Codes.{code_of}
 use Rattle.message.specs.declared.Record.{Record}
-use Rattle.grammar.specs.Numbers.{number_of}
+use Rattle.grammar.specs.Bulletins.{acceptance, refusal}
 use Rattle.grammar.specs.declared.Reply.{Reply}
 use Rattle.grammar.specs.Reads.{reply_of}
-use Rattle.grammar.specs.Runs.Ran.{accepted, refused}
-use Rattle.grammar.specs.Runs.{Ran, run_at}
-use Rattle.grammar.specs.States.Move.{goes}
-use Rattle.grammar.specs.States.State.{at_end}
+use Rattle.grammar.specs.Runs.{run_at}
 use Rattle.grammar.specs.States.{State}
-use Rattle.grammar.specs.Steps.{goes_if, step}
-use Rattle.reader_sections.specs.declared.steps.Step.{Step}
+use Rattle.reader_sections.specs.declared.step.Step.{Step}
+use Rattle.reader_sections.specs.declared.step.Refused.{Refused}
+use Rattle.reader_sections.specs.declared.parts.Part.{Part}
+use Rattle.reader_sections.specs.declared.parts.Part.TheVariants.{End}
+use Rattle.reader_sections.specs.Parts.{part_number}
 
--- where the next word of the text from a place on begins and ends; the `=` is empty there
-pub record WordAt (t : List ℕ) (at start end : ℕ) : Type 0 where
-  pub starts : start ≡ (span_of t at).start
-  pub ends : end ≡ (span_of t at).end
-  pub ordered : start ≤ end
-  pub within : end ≤ length t
+-- the next word, and what the text has of it: nothing where it is the `=`
+abbrev pub next_word : Step → List ℕ
+next_word p = word_from p.text.now p.place
 
--- the run at a step
-abbrev pub run_on : State → List ℕ → Step → Ran
-run_on s t p = pick (eqb p.number 0) (run_at s t p.place) (refused p.number p.place)
-
--- the run is over: the record is accepted, or the word at that place is refused by that number
-abbrev pub concluded : ℕ → ℕ → Record → Ran
-concluded number place r = pick (eqb number 0) (accepted r) (refused number place)
-
--- what the text has of the word at a step: from its place to its end
-abbrev pub word_on : List ℕ → Step → List ℕ
-word_on t p = part p.place p.end t
-
--- from one step in a state to another in the next
-pub record Leads (s : State) (t : List ℕ) (from to : Step) (next : State) : Type 0 where
-  pub says : run_on s t from ≡ run_on next t to
-
--- from a step to the reply to the text
-pub record Replies (s : State) (t : List ℕ) (from : Step) (r : Reply) : Type 0 where
-  pub says : r ≡ reply_of t (run_on s t from)
-
--- a step stands before a word, which is empty in the text where it is the `=`; a refused one before an empty word
-pub record Stands (t : List ℕ) (p : Step) : Type 0 where
-  pub ordered : p.place ≤ p.end
-  pub within : p.end ≤ length t
-  pub going : p.number ≡ 0 → WordAt t p.place p.place p.end
-  pub stays : (p.number ≡ 0 → ⊥) → p.end ≡ p.place
+abbrev pub word_on : Step → List ℕ
+word_on p = part p.place p.end p.text.now
 
 -- the step before the next word from a place on
 pub record Before (t : List ℕ) (at : ℕ) (to : Step) : Type 0 where
-  pub going : to.number ≡ 0
+  pub text : to.text.now ≡ t
   pub placed : to.place ≡ (span_of t at).start
-  pub stands : Stands t to
 
--- the step past a word that is good, or its refusal
-pub record Judged (t : List ℕ) (from : Step) (good : Bool) (refusal : ℕ) (to : Step) : Type 0 where
-  pub taken : good ≡ true → Before t from.end to
-  pub numbered : good ≡ false → to.number ≡ pick (eqb from.number 0) refusal from.number
-  pub placed : good ≡ false → to.place ≡ from.place
-  pub stands : Stands t to
+-- the step past a word
+pub record Next (from to : Step) : Type 0 where
+  pub is : Before from.text.now from.end to
 
--- a required word of a kind
-pub record Takes {A : Type 0} (read : List ℕ → A) (good : A → Bool) (refusal : ℕ) (t : List ℕ) (from to : Step) (value : A) : Type 0 where
-  pub says : (s : State) (next : A → State)
-      → (from.number ≡ 0 → step s (word_from t from.place) ≡ goes_if (good (read (word_from t from.place))) (next (read (word_from t from.place))))
-      → number_of s ≡ refusal → Leads s t from to (next value)
-  pub stands : Stands t to
+-- the word is refused as that part
+pub record Refuses (judged : Part) (from : Step) (e : Refused) : Type 0 where
+  pub kept : e.part ≡ judged
+  pub at : e.place ≡ from.place
+  pub long : e.length ≡ length_at from.text.now from.place
 
--- a required fixed word
-pub record TakesFixed (code refusal : ℕ) (t : List ℕ) (from to : Step) : Type 0 where
-  pub says : (k : List ℕ) → FixedWord k code → (s next : State)
-      → (from.number ≡ 0 → step s (word_from t from.place) ≡ goes_if (same (word_from t from.place) k) next) → number_of s ≡ refusal → Leads s t from to next
-  pub went : {k : List ℕ} → FixedWord k code → to.number ≡ 0 → from.number ≡ 0
-  pub stands : Stands t to
+-- a required word that has a value, and any other
+abbrev pub required : {A : Type 0} → Part → Step → Option A → Result (A × Step) Refused → Type 0
+required judged from value (Ok v) = (value ≡ Some v.0) × Next from v.1
+required judged from value (Err e) = (value ≡ None) × Refuses judged from e
+
+pub record Required {A : Type 0} (judged : Part) (from : Step) (value : Option A) (r : Result (A × Step) Refused) : Type 0 where
+  pub is : required judged from value r
+
+-- a required fixed word, by its code
+abbrev pub fixed : Part → ℕ → Step → Result Step Refused → Type 0
+fixed judged code from (Ok p) = (code_of (word_on from) ≡ code) × Next from p
+fixed judged code from (Err e) = (code_of (word_on from) ≡ code → ⊥) × Refuses judged from e
+
+pub record Fixed (judged : Part) (code : ℕ) (from : Step) (r : Result Step Refused) : Type 0 where
+  pub is : fixed judged code from r
 
 -- … of more than seven bytes
-pub record TakesLong (wanted : List ℕ) (refusal : ℕ) (t : List ℕ) (from to : Step) : Type 0 where
-  pub says : (s next : State)
-      → (from.number ≡ 0 → step s (word_from t from.place) ≡ goes_if (same (word_from t from.place) wanted) next) → number_of s ≡ refusal → Leads s t from to next
-  pub stands : Stands t to
+abbrev pub long : Part → List ℕ → Step → Result Step Refused → Type 0
+long judged wanted from (Ok p) = (same (word_on from) wanted ≡ true) × Next from p
+long judged wanted from (Err e) = (same (word_on from) wanted ≡ false) × Refuses judged from e
 
--- perhaps a fixed word: where the next word is another, the run goes on before it, as what is next required
-pub record MayTake (code : ℕ) (t : List ℕ) (from : Step) (found : Bool) (to : Step) : Type 0 where
-  pub with : found ≡ true → (k : List ℕ) → FixedWord k code → (s there : State)
-      → (same (word_from t from.place) k ≡ true → step s (word_from t from.place) ≡ goes there) → Leads s t from to there
-  pub without : found ≡ false → (k : List ℕ) → FixedWord k code → (s otherwise : State)
-      → (from.number ≡ 0 → same (word_from t from.place) k ≡ false → step s (word_from t from.place) ≡ step otherwise (word_from t from.place))
-      → number_of s ≡ number_of otherwise → Leads s t from to otherwise
-  pub other : found ≡ false → (k : List ℕ) → FixedWord k code → to.number ≡ 0 → same (word_from t to.place) k ≡ false
-  pub stands : Stands t to
+pub record Long (judged : Part) (wanted : List ℕ) (from : Step) (r : Result Step Refused) : Type 0 where
+  pub is : long judged wanted from r
 
--- the `=`
-pub record Closes (from to : Step) : Type 0 where
-  pub says : (t : List ℕ) (r : Record) → Stands t from → run_on (at_end r) t from ≡ concluded to.number to.place r
+-- perhaps a fixed word
+abbrev pub perhaps : ℕ → Step → Option Step → Type 0
+perhaps code from (Some p) = (code_of (word_on from) ≡ code) × Next from p
+perhaps code from None = code_of (word_on from) ≡ code → ⊥
+
+pub record Perhaps (code : ℕ) (from : Step) (r : Option Step) : Type 0 where
+  pub is : perhaps code from r
+
+-- the `=`, or a word in its place
+abbrev pub ended : Step → Result Unit Refused → Type 0
+ended from (Ok _) = from.place ≡ from.end
+ended from (Err e) = (from.place ≡ from.end → ⊥) × Refuses End from e
+
+pub record Ended (from : Step) (r : Result Unit Refused) : Type 0 where
+  pub is : ended from r
+
+-- the reply to the text from a step on, where the machine is in a state
+abbrev pub reply_on : State → Step → Reply
+reply_on s p = reply_of p.text.now (run_at s p.text.now p.place)
+
+-- the reply is that from a later step on, in another state
+pub record Reaches (s : State) (from : Step) (next : State) (to : Step) : Type 0 where
+  pub says : reply_on s from ≡ reply_on next to
+
+-- the reply is that refusal
+pub record Ends (s : State) (from : Step) (e : Refused) : Type 0 where
+  pub says : reply_on s from ≡ refusal (part_number e.part) e.place e.length
+
+-- a section leads to a value, which gives the next state, and a step; or to a refusal
+abbrev pub leads : {A : Type 0} → State → Step → Result (A × Step) Refused → (A → State) → Type 0
+leads s from (Ok v) next = Reaches s from (next v.0) v.1
+leads s from (Err e) next = Ends s from e
+
+pub record Leads {A : Type 0} (s : State) (from : Step) (r : Result (A × Step) Refused) (next : A → State) : Type 0 where
+  pub says : leads s from r next
+
+-- … to a step alone
+abbrev pub moves : State → Step → Result Step Refused → State → Type 0
+moves s from (Ok p) next = Reaches s from next p
+moves s from (Err e) next = Ends s from e
+
+pub record Moves (s : State) (from : Step) (r : Result Step Refused) (next : State) : Type 0 where
+  pub says : moves s from r next
+
+-- … to the record of the whole text
+abbrev pub replies : State → Step → Result Record Refused → Type 0
+replies s from (Ok m) = reply_on s from ≡ acceptance m
+replies s from (Err e) = Ends s from e
+
+pub record Replies (s : State) (from : Step) (r : Result Record Refused) : Type 0 where
+  pub says : replies s from r

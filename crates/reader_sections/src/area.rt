@@ -1,34 +1,26 @@
 // Area: four letters, a name, then the closing word.
-ghost use Rattle.reader_sections.specs.Openings.{AreaSays};
-ghost use Rattle.reader_sections.specs.Steps.{Stands};
+ghost use Rattle.message.specs.declared.FirstLine.{FirstLine};
+ghost use Rattle.message.specs.declared.Heading.{Heading};
+ghost use Rattle.grammar.specs.States.State.{at_indicator, at_form};
+ghost use Rattle.reader_sections.specs.Steps.{Leads};
 
 use crate::name::read_name;
-use crate::parts;
-use crate::required_words::{closing_at, letters_at};
-use crate::steps::Step;
+use crate::parts::Part;
+use crate::step::{Refused, Step};
+use figures::letters;
 use message::{Area, NAME_BYTES};
+use names::closing_word;
 
-#[derive(Clone, Copy)]
-pub(crate) struct AreaRead {
-    pub step: Step,
-    pub area: Area,
-}
-
-pub(crate) fn read_area(text: &[u8], from: Step) -> AreaRead
-    requires { Stands text.now from }
-    ensures { AreaSays text.now from result.step result.area }
+pub(crate) fn read_area(step: Step) -> Result<(Area, Step), Refused>
+    ensures { (h : Heading) (l : FirstLine) → Leads (at_indicator h l) step.entry result (λ a. at_form (record { heading = h; line = l; area = a })) }
 {
-    let indicator = letters_at(text, from, parts::AREA);
-    let named = read_name(text, indicator.step, false, NAME_BYTES, parts::AREA);
-    let closed = closing_at(text, named.step, parts::AREA);
-    let step = closed.step;
-    let name = named.name;
-    AreaRead {
-        step,
-        area: Area {
-            indicator: indicator.letters,
-            name,
-            closing: closed.closing,
-        },
-    }
+    let (indicator, step) = step.required(Part::Area, letters(step.word(), 4))?;
+    let (name, step) = read_name(step, false, NAME_BYTES, Part::Area)?;
+    let (closing, step) = step.required(Part::Area, closing_word(step.word()))?;
+    let area = Area {
+        indicator,
+        name,
+        closing,
+    };
+    Ok((area, step))
 }

@@ -1,65 +1,41 @@
 // After the area: a test, a cancellation or a report, and the `=`.
-ghost use Rattle.grammar.specs.States.State.{at_form, at_test, at_test_text, at_cancel_sigmet};
+ghost use Rattle.message.specs.Reports.{no_report};
+ghost use Rattle.grammar.specs.Records.{formed};
+ghost use Rattle.grammar.specs.States.{State};
+ghost use Rattle.grammar.specs.States.State.{at_form, at_end};
+ghost use Rattle.reader_sections.specs.declared.step.Step.{Step};
 ghost use Rattle.reader_sections.specs.Openings.{area_in};
-ghost use Rattle.reader_sections.specs.Steps.{Stands, Replies};
+ghost use Rattle.reader_sections.specs.Steps.{Leads, Replies};
 
 use crate::cancellation::read_cancellation;
 use crate::opening::Opening;
-use crate::replies::unreported;
 use crate::report::read_report;
-use crate::steps::{Step, code_of, step_at};
+use crate::step::{Refused, Step};
 use crate::test_texts::{read_long_test, read_test};
-use grammar::Reply;
-use message::Form;
+use message::{Form, NO_REPORT, Record};
 
-// What follows TEST.
-fn test_body(text: &[u8], from: Step, opening: Opening) -> Reply
-    requires { Stands text.now from }
-    ensures { Replies (at_test (area_in opening)) text.now from result }
+// A test or a cancellation has no report, and the `=` follows.
+fn unreported(read: Result<(Form, Step), Refused>, opening: Opening) -> Result<Record, Refused>
+    ensures { (s : State) (from : Step) → Leads s from read.entry (λ f. at_end (formed (area_in opening) f no_report)) → Replies s from result }
 {
-    let tested = read_test(text, from);
-    unreported(text, tested.step, opening, Form::Test(tested.test))
-}
-
-// What follows `TEST.`.
-fn long_test_body(text: &[u8], from: Step, opening: Opening) -> Reply
-    requires { Stands text.now from }
-    ensures { Replies (at_test_text (area_in opening) 3 1) text.now from result }
-{
-    let step = read_long_test(text, from);
-    unreported(text, step, opening, Form::Test(3))
-}
-
-// What follows CNL.
-fn cancellation_body(text: &[u8], from: Step, opening: Opening) -> Reply
-    requires { Stands text.now from }
-    ensures { Replies (at_cancel_sigmet (area_in opening)) text.now from result }
-{
-    let target = read_cancellation(text, from, opening.line);
-    let sequence = target.sequence;
-    let start = target.from;
-    unreported(
-        text,
-        target.step,
-        opening,
-        Form::Cancellation(sequence, start),
-    )
+    let (form, step) = read?;
+    step.ended()?;
+    Ok(opening.message(form, NO_REPORT))
 }
 
 // A word that begins neither a test nor a cancellation is judged as a phenomenon.
-pub(crate) fn read_body(text: &[u8], from: Step, opening: Opening) -> Reply
-    requires { Stands text.now from }
-    ensures { Replies (at_form (area_in opening)) text.now from result }
+pub(crate) fn read_body(step: Step, opening: Opening) -> Result<Record, Refused>
+    ensures { Replies (at_form (area_in opening)) step.entry result }
 {
-    let code = code_of(text, from);
+    let code = step.code();
     if code == vocabulary::TEST {
-        return test_body(text, step_at(text, from.end), opening);
+        return unreported(read_test(step.next()), opening);
     }
     if code == vocabulary::TEST_STOP {
-        return long_test_body(text, step_at(text, from.end), opening);
+        return unreported(read_long_test(step.next()), opening);
     }
     if code == vocabulary::CNL {
-        return cancellation_body(text, step_at(text, from.end), opening);
+        return unreported(read_cancellation(step.next(), opening.line), opening);
     }
-    read_report(text, from, opening)
+    read_report(step, opening)
 }

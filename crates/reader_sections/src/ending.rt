@@ -1,25 +1,24 @@
 // Ending: MOV, a compass point and a speed, or STNR, then the intensity; or, in WS only, the intensity and a forecast. Then the `=`.
 ghost use Rattle.std.specs.Prelude.{◌≡◌};
+ghost use Rattle.lists.specs.Choice.{found};
 ghost use Rattle.figures.specs.Codes.{code_of};
 ghost use Rattle.groups.specs.Groups.{time_of};
-ghost use Rattle.grammar.specs.Bulletins.{acceptance};
+ghost use Rattle.message.specs.Locations.{no_extent};
 ghost use Rattle.grammar.specs.Records.{report_of};
-ghost use Rattle.grammar.specs.States.State.{at_ending};
-ghost use Rattle.reader_sections.specs.Endings.{level_in, MovingSays, MovementSays, forecast_time, ForecastWordsSays, ForecastSays};
-ghost use Rattle.reader_sections.specs.Steps.{word_on, Stands, Takes, Replies};
+ghost use Rattle.grammar.specs.States.{ToLevel};
+ghost use Rattle.grammar.specs.States.State.{at_ending, at_compass, at_end};
+ghost use Rattle.reader_sections.specs.Endings.{level_in, Unforeseen, forecast_time, Forecasts, ForecastWordsSays};
+ghost use Rattle.reader_sections.specs.Steps.{next_word, word_on, Leads, Replies};
 
 use crate::location::read_location;
 use crate::opening::Opening;
-use crate::parts;
-use crate::replies::{accepted, refused_at};
-use crate::required_words::{IntensityRead, TimeRead, compass_at, intensity_at, speed_at};
-use crate::steps::{Step, code_of, concluding, fixed_at, judged, step_at};
-use grammar::Reply;
-use groups::{Time, good_time, time_word};
+use crate::parts::Part;
+use crate::step::{Refused, Step};
+use groups::{Time, time_word};
 use headings::KIND_WS;
 use levels::Level;
-use lists::both;
-use message::{Ending, Extent, Form, NO_EXTENT, Observation, Report, Volcano};
+use message::{Ending, Extent, Form, NO_EXTENT, Observation, Record, Report, Volcano};
+use motions::{compass_word, intensity_word, speed_word};
 
 // What was read up to the level of a report, with the opening before it.
 #[derive(Clone, Copy)]
@@ -32,140 +31,92 @@ pub(crate) struct UpToLevel {
     pub level: Level,
 }
 
-#[derive(Clone, Copy)]
-struct MovementRead {
-    pub step: Step,
-    pub ending: Ending,
-}
-
-// The reply to a whole report.
-fn reported(known: UpToLevel, ending: Ending, forecast: Extent) -> Reply
-    ensures { result ≡ acceptance (report_of (level_in known) ending forecast) }
-{
-    let opening = known.opening;
-    let volcano = known.volcano;
-    let observation = known.observation;
-    let extent = known.extent;
-    let level = known.level;
-    let report = Report {
-        phenomenon: known.phenomenon,
-        volcano,
-        observation,
-        extent,
-        level,
-        ending,
-        forecast,
-    };
-    accepted(opening, Form::Reported, report)
+impl UpToLevel {
+    // The whole report.
+    fn message(self, ending: Ending, forecast: Extent) -> Record
+        ensures { result ≡ report_of (level_in self) ending forecast }
+    {
+        let report = Report {
+            phenomenon: self.phenomenon,
+            volcano: self.volcano,
+            observation: self.observation,
+            extent: self.extent,
+            level: self.level,
+            ending,
+            forecast,
+        };
+        self.opening.message(Form::Reported, report)
+    }
 }
 
 // What follows MOV.
-fn read_moving(text: &[u8], from: Step) -> MovementRead
-    requires { Stands text.now from }
-    ensures { MovingSays text.now from result.step result.ending }
+fn read_moving(step: Step) -> Result<(Ending, Step), Refused>
+    ensures { (l : ToLevel) → Leads (at_compass l) step.entry result (λ e. at_end (report_of l e no_extent)) }
 {
-    let direction = compass_at(text, from, parts::ENDING);
-    let speeding = speed_at(text, direction.step, parts::ENDING);
-    let change = intensity_at(text, speeding.step, parts::ENDING);
-    let step = change.step;
-    let speed = speeding.speed;
-    MovementRead {
-        step,
-        ending: Ending::Moving(direction.compass, speed, change.intensity),
-    }
+    let (direction, step) = step.required(Part::Ending, compass_word(step.word()))?;
+    let (speed, step) = step.required(Part::Ending, speed_word(step.word()))?;
+    let (intensity, step) = step.required(Part::Ending, intensity_word(step.word()))?;
+    Ok((Ending::Moving(direction, speed, intensity), step))
 }
 
-// MOV and what follows it, or STNR and the intensity: the word of that code is judged as STNR where it is not MOV.
-fn read_movement(text: &[u8], from: Step, code: u64) -> MovementRead
-    requires { (Stands text.now from) × (code ≡ code_of (word_on text.now from)) }
-    ensures { MovementSays code text.now from result.step result.ending }
+// MOV and what follows it, or STNR and the intensity: a word that is not MOV is judged as STNR.
+fn read_movement(step: Step) -> Result<(Ending, Step), Refused>
+    ensures { (l : ToLevel) → Unforeseen (code_of (word_on step.entry)) l → Leads (at_ending l) step.entry result (λ e. at_end (report_of l e no_extent)) }
 {
-    if code == vocabulary::MOV {
-        return read_moving(text, step_at(text, from.end));
+    if let Some(step) = step.perhaps(vocabulary::MOV) {
+        return read_moving(step);
     }
-    let still = judged(text, from, code == vocabulary::STNR, parts::ENDING);
-    let change = intensity_at(text, still, parts::ENDING);
-    let step = change.step;
-    MovementRead {
-        step,
-        ending: Ending::Stationary(change.intensity),
-    }
+    let step = step.fixed(Part::Ending, vocabulary::STNR)?;
+    let (intensity, step) = step.required(Part::Ending, intensity_word(step.word()))?;
+    Ok((Ending::Stationary(intensity), step))
 }
 
 // The time of a forecast is that of the end of VALID.
-fn forecast_time_at(text: &[u8], from: Step, until: Time) -> TimeRead
-    requires { Stands text.now from }
-    ensures { Takes time_of (forecast_time until) 11 text.now from result.step result.time }
+fn forecast_time_word(w: &[u8], until: Time) -> Option<Time>
+    ensures { result ≡ found (forecast_time until) (time_of w.now) }
 {
-    let start = from.place;
-    let end = from.end;
-    let time = time_word(&text[start..end]);
-    let same = both(time.hour == until.hour, time.minute == until.minute);
-    let step = judged(text, from, both(good_time(time), same), parts::ENDING);
-    TimeRead { step, time }
+    let time = time_word(w)?;
+    if time == until { Some(time) } else { None }
 }
 
 // The forecast of a WS up to its location: the intensity, FCST AT and the time.
-fn forecast_words_at(text: &[u8], from: Step, until: Time) -> IntensityRead
-    requires { Stands text.now from }
-    ensures { ForecastWordsSays until text.now from result.step result.intensity }
+fn read_forecast_words(step: Step, until: Time) -> Result<(u8, Step), Refused>
+    ensures { ForecastWordsSays until step.entry result }
 {
-    let change = intensity_at(text, from, parts::ENDING);
-    let fcst = fixed_at(text, change.step, vocabulary::FCST, parts::ENDING);
-    let at = fixed_at(text, fcst, vocabulary::AT, parts::ENDING);
-    let timed = forecast_time_at(text, at, until);
-    let step = timed.step;
-    IntensityRead {
-        step,
-        intensity: change.intensity,
-    }
+    let (intensity, step) = step.required(Part::Ending, intensity_word(step.word()))?;
+    let step = step.fixed(Part::Ending, vocabulary::FCST)?;
+    let step = step.fixed(Part::Ending, vocabulary::AT)?;
+    let time = forecast_time_word(step.word(), until);
+    let (_, step) = step.required(Part::Ending, time)?;
+    Ok((intensity, step))
 }
 
-// The forecast and the `=`. What is refused before its location is answered at once, as in a report.
-fn read_forecast(text: &[u8], from: Step, known: UpToLevel) -> Reply
-    requires { Stands text.now from }
-    ensures { ForecastSays known text.now from result }
+// The forecast and the `=`.
+fn read_forecast(step: Step, known: UpToLevel) -> Result<Record, Refused>
+    ensures { Forecasts (level_in known) (next_word step.entry) → Replies (at_ending (level_in known)) step.entry result }
 {
-    let opening = known.opening;
-    let area = opening.area;
-    let line = opening.line;
-    let valid = line.valid;
-    let to = valid.to;
+    let to = known.opening.line.valid.to;
     let until = Time {
         hour: to.hour,
         minute: to.minute,
     };
-    let change = forecast_words_at(text, from, until);
-    let reached = change.step;
-    if reached.number != 0 {
-        return refused_at(text, reached);
-    }
-    let located = read_location(text, reached, area.closing, parts::ENDING);
-    let end = concluding(located.step);
-    if end.number != 0 {
-        return refused_at(text, end);
-    }
-    reported(known, Ending::Forecast(change.intensity), located.extent)
+    let (intensity, step) = read_forecast_words(step, until)?;
+    let (forecast, step) = read_location(step, known.opening.area.closing, Part::Ending)?;
+    step.ended()?;
+    Ok(known.message(Ending::Forecast(intensity), forecast))
 }
 
 // A word that is neither MOV nor STNR is judged, in a WS, as the intensity before a forecast.
-pub(crate) fn read_ending(text: &[u8], from: Step, known: UpToLevel) -> Reply
-    requires { Stands text.now from }
-    ensures { Replies (at_ending (level_in known)) text.now from result }
+pub(crate) fn read_ending(step: Step, known: UpToLevel) -> Result<Record, Refused>
+    ensures { Replies (at_ending (level_in known)) step.entry result }
 {
-    let opening = known.opening;
-    let heading = opening.heading;
-    let designator = heading.designator;
-    let code = code_of(text, from);
-    let other = both(code != vocabulary::MOV, code != vocabulary::STNR);
-    if both(designator.kind == KIND_WS, other) {
-        return read_forecast(text, from, known);
+    let code = step.code();
+    let moves = code == vocabulary::MOV || code == vocabulary::STNR;
+    let weather = known.opening.heading.designator.kind == KIND_WS;
+    if weather && !moves {
+        return read_forecast(step, known);
     }
-    let moved = read_movement(text, from, code);
-    let end = concluding(moved.step);
-    if end.number != 0 {
-        return refused_at(text, end);
-    }
-    let ending = moved.ending;
-    reported(known, ending, NO_EXTENT)
+    let (ending, step) = read_movement(step)?;
+    step.ended()?;
+    Ok(known.message(ending, NO_EXTENT))
 }

@@ -1,38 +1,29 @@
 // First line: four letters (unit), SIGMET, sequence, VALID, group/group, four letters and a hyphen (office).
-ghost use Rattle.reader_sections.specs.Openings.{LineSays};
-ghost use Rattle.reader_sections.specs.Steps.{Stands};
+ghost use Rattle.message.specs.declared.Heading.{Heading};
+ghost use Rattle.grammar.specs.States.State.{at_unit, at_indicator};
+ghost use Rattle.reader_sections.specs.Steps.{Leads};
 
-use crate::parts;
-use crate::required_words::{letters_at, office_at, period_at, sequence_at};
-use crate::steps::{Step, fixed_at};
+use crate::parts::Part;
+use crate::step::{Refused, Step};
+use figures::letters;
+use groups::period_word;
+use headings::{office_word, sequence_word};
 use message::FirstLine;
 
-#[derive(Clone, Copy)]
-pub(crate) struct LineRead {
-    pub step: Step,
-    pub line: FirstLine,
-}
-
-pub(crate) fn read_line(text: &[u8], from: Step) -> LineRead
-    requires { Stands text.now from }
-    ensures { LineSays text.now from result.step result.line }
+pub(crate) fn read_line(step: Step) -> Result<(FirstLine, Step), Refused>
+    ensures { (h : Heading) → Leads (at_unit h) step.entry result (at_indicator h) }
 {
-    let unit = letters_at(text, from, parts::FIRST_LINE);
-    let sigmet = fixed_at(text, unit.step, vocabulary::SIGMET, parts::FIRST_LINE);
-    let numbered = sequence_at(text, sigmet, parts::FIRST_LINE);
-    let valid = fixed_at(text, numbered.step, vocabulary::VALID, parts::FIRST_LINE);
-    let lasting = period_at(text, valid, parts::FIRST_LINE);
-    let office = office_at(text, lasting.step, parts::FIRST_LINE);
-    let step = office.step;
-    let sequence = numbered.sequence;
-    let valid = lasting.period;
-    LineRead {
-        step,
-        line: FirstLine {
-            unit: unit.letters,
-            sequence,
-            valid,
-            office: office.office,
-        },
-    }
+    let (unit, step) = step.required(Part::FirstLine, letters(step.word(), 4))?;
+    let step = step.fixed(Part::FirstLine, vocabulary::SIGMET)?;
+    let (sequence, step) = step.required(Part::FirstLine, sequence_word(step.word()))?;
+    let step = step.fixed(Part::FirstLine, vocabulary::VALID)?;
+    let (valid, step) = step.required(Part::FirstLine, period_word(step.word()))?;
+    let (office, step) = step.required(Part::FirstLine, office_word(step.word()))?;
+    let line = FirstLine {
+        unit,
+        sequence,
+        valid,
+        office,
+    };
+    Ok((line, step))
 }

@@ -1,61 +1,39 @@
 // Heading: the designator, the centre and the time of sending, then perhaps a correction.
-ghost use Rattle.reader_sections.specs.Openings.{CorrectionSays, HeadingSays};
-ghost use Rattle.reader_sections.specs.Steps.{Stands};
+ghost use Rattle.std.specs.Prelude.{ℕ};
+ghost use Rattle.groups.specs.declared.Group.{Group};
+ghost use Rattle.headings.specs.declared.Designator.{Designator};
+ghost use Rattle.grammar.specs.States.State.{at_designator, at_correction, at_unit};
+ghost use Rattle.reader_sections.specs.Steps.{Reaches, Leads};
 
-use crate::parts;
-use crate::required_words::{designator_at, group_at, letters_at};
-use crate::steps::{Step, step_at};
-use headings::correction_word;
+use crate::parts::Part;
+use crate::step::{Refused, Step};
+use figures::letters;
+use groups::group_word;
+use headings::{correction_word, designator_word};
 use message::Heading;
 
-#[derive(Clone, Copy)]
-struct CorrectionRead {
-    pub step: Step,
-    pub correction: u8,
-}
-
-#[derive(Clone, Copy)]
-pub(crate) struct HeadingRead {
-    pub step: Step,
-    pub heading: Heading,
-}
-
 // A word that is no correction stays for the first line.
-fn read_correction(text: &[u8], from: Step) -> CorrectionRead
-    requires { Stands text.now from }
-    ensures { CorrectionSays text.now from result.step result.correction }
+fn read_correction(step: Step) -> (u8, Step)
+    ensures { (d : Designator) (c : ℕ) (g : Group) → Reaches (at_correction d c g) step.entry (at_unit (record { designator = d; centre = c; sent = g; correction = result.0 })) result.1 }
 {
-    let start = from.place;
-    let end = from.end;
-    let correction = correction_word(&text[start..end]);
-    if correction == 0 {
-        return CorrectionRead {
-            step: from,
-            correction,
-        };
+    match correction_word(step.word()) {
+        Some(letter) => (letter, step.next()),
+        None => (0, step),
     }
-    let step = step_at(text, from.end);
-    CorrectionRead { step, correction }
 }
 
-pub(crate) fn read_heading(text: &[u8], from: Step) -> HeadingRead
-    requires { Stands text.now from }
-    ensures { HeadingSays text.now from result.step result.heading }
+pub(crate) fn read_heading(step: Step) -> Result<(Heading, Step), Refused>
+    ensures { Leads at_designator step.entry result at_unit }
 {
-    let begun = designator_at(text, from, parts::HEADING);
-    let centre = letters_at(text, begun.step, parts::HEADING);
-    let timed = group_at(text, centre.step, parts::HEADING);
-    let corrected = read_correction(text, timed.step);
-    let step = corrected.step;
-    let designator = begun.designator;
-    let sent = timed.group;
-    HeadingRead {
-        step,
-        heading: Heading {
-            designator,
-            centre: centre.letters,
-            sent,
-            correction: corrected.correction,
-        },
-    }
+    let (designator, step) = step.required(Part::Heading, designator_word(step.word()))?;
+    let (centre, step) = step.required(Part::Heading, letters(step.word(), 4))?;
+    let (sent, step) = step.required(Part::Heading, group_word(step.word()))?;
+    let (correction, step) = read_correction(step);
+    let heading = Heading {
+        designator,
+        centre,
+        sent,
+        correction,
+    };
+    Ok((heading, step))
 }

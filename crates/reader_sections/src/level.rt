@@ -1,101 +1,56 @@
 // Level: one word, or TOP, ABV or TOP ABV and FLnnn.
 ghost use Rattle.std.specs.Prelude.{◌≡◌};
-ghost use Rattle.levels.specs.Levels.{level_of, good_level_word, flight};
-ghost use Rattle.grammar.specs.Steps.{flight_of};
-ghost use Rattle.reader_sections.specs.Steps.{Stands, Takes};
-ghost use Rattle.reader_sections.specs.Reports.{flight_in, TopSays, LevelSays};
+ghost use Rattle.lists.specs.Choice.{found};
+ghost use Rattle.levels.specs.Levels.{flight};
+ghost use Rattle.grammar.specs.States.{ToLocation};
+ghost use Rattle.grammar.specs.States.State.{at_level, at_top, at_above, at_ending};
+ghost use Rattle.grammar.specs.Steps.{levelled};
+ghost use Rattle.reader_sections.specs.Reports.{flight_in};
+ghost use Rattle.reader_sections.specs.Steps.{Leads};
 
-use crate::parts;
-use crate::steps::{Step, code_of, judged, perhaps_at, step_at};
-use levels::{Level, empty_level, level_word};
+use crate::parts::Part;
+use crate::step::{Refused, Step};
+use levels::{Level, level_word};
 
-#[derive(Clone, Copy)]
-pub(crate) struct LevelRead {
-    pub step: Step,
-    pub level: Level,
-}
-
-#[derive(Clone, Copy)]
-struct FlightRead {
-    pub step: Step,
-    pub flight: u32,
-}
-
-fn level_at(text: &[u8], from: Step) -> LevelRead
-    requires { Stands text.now from }
-    ensures { Takes level_of good_level_word 10 text.now from result.step result.level }
+// The number of a word FLnnn.
+fn flight_word(w: &[u8]) -> Option<u32>
+    ensures { result ≡ found flight (flight_in w.now) }
 {
-    let start = from.place;
-    let end = from.end;
-    let level = level_word(&text[start..end]);
-    let step = judged(text, from, !empty_level(level), parts::LEVEL);
-    LevelRead { step, level }
-}
-
-// The number of a level that is FLnnn, 0 of any other.
-fn flight_number(level: Level) -> u32
-    ensures { result ≡ flight_of level }
-{
-    match level {
-        Level::NoLevel => 0,
-        Level::Flight(n) => n,
-        Level::SurfaceFlight(_) => 0,
-        Level::SurfaceMetres(_) => 0,
-        Level::SurfaceFeet(_) => 0,
-        Level::Band(_, _) => 0,
-        Level::TopFlight(_) => 0,
-        Level::AboveFlight(_) => 0,
-        Level::TopAboveFlight(_) => 0,
+    match level_word(w)? {
+        Level::Flight(n) => Some(n),
+        _ => None,
     }
-}
-
-fn flight_at(text: &[u8], from: Step) -> FlightRead
-    requires { Stands text.now from }
-    ensures { Takes flight_in flight 10 text.now from result.step result.flight }
-{
-    let start = from.place;
-    let end = from.end;
-    let level = level_word(&text[start..end]);
-    let flight = flight_number(level);
-    let step = judged(text, from, flight != 0, parts::LEVEL);
-    FlightRead { step, flight }
 }
 
 // FLnnn or ABV FLnnn, after TOP.
-fn read_top(text: &[u8], from: Step) -> LevelRead
-    requires { Stands text.now from }
-    ensures { TopSays text.now from result.step result.level }
+fn read_top(step: Step) -> Result<(Level, Step), Refused>
+    ensures { (q : ToLocation) → Leads (at_top q) step.entry result (levelled q) }
 {
-    let above = perhaps_at(text, from, vocabulary::ABV);
-    let height = flight_at(text, above.step);
-    let step = height.step;
-    if above.found {
-        return LevelRead {
-            step,
-            level: Level::TopAboveFlight(height.flight),
-        };
+    if let Some(step) = step.perhaps(vocabulary::ABV) {
+        let (n, step) = step.required(Part::Level, flight_word(step.word()))?;
+        return Ok((Level::TopAboveFlight(n), step));
     }
-    LevelRead {
-        step,
-        level: Level::TopFlight(height.flight),
-    }
+    let (n, step) = step.required(Part::Level, flight_word(step.word()))?;
+    Ok((Level::TopFlight(n), step))
 }
 
-pub(crate) fn read_level(text: &[u8], from: Step) -> LevelRead
-    requires { Stands text.now from }
-    ensures { LevelSays text.now from result.step result.level }
+// FLnnn, after ABV.
+fn read_above(step: Step) -> Result<(Level, Step), Refused>
+    ensures { (q : ToLocation) → Leads (at_above q) step.entry result (levelled q) }
 {
-    let code = code_of(text, from);
+    let (n, step) = step.required(Part::Level, flight_word(step.word()))?;
+    Ok((Level::AboveFlight(n), step))
+}
+
+pub(crate) fn read_level(step: Step) -> Result<(Level, Step), Refused>
+    ensures { (q : ToLocation) → Leads (at_level q) step.entry result (levelled q) }
+{
+    let code = step.code();
     if code == vocabulary::TOP {
-        return read_top(text, step_at(text, from.end));
+        return read_top(step.next());
     }
     if code == vocabulary::ABV {
-        let height = flight_at(text, step_at(text, from.end));
-        let step = height.step;
-        return LevelRead {
-            step,
-            level: Level::AboveFlight(height.flight),
-        };
+        return read_above(step.next());
     }
-    level_at(text, from)
+    step.required(Part::Level, level_word(step.word()))
 }

@@ -1,46 +1,27 @@
-// Location: a bound, an outline or the entire area. It is read in a report and in a forecast, and refused by the number of either.
-ghost use Rattle.std.specs.Prelude.{◌≡◌, ◌<◌};
+// Location: a bound, an outline or the entire area. It is read in a report and in a forecast, and refused as that part of either.
+ghost use Rattle.std.specs.Prelude.{◌≡◌, ℕ};
+ghost use Rattle.figures.specs.Codes.{spell_code};
+ghost use Rattle.message.specs.Locations.{entire_word};
 ghost use Rattle.grammar.specs.Records.{bounded as bounded_by};
 ghost use Rattle.grammar.specs.States.Placing.{at_location, at_latitude_of, at_and, at_longitude_of, at_entire};
-ghost use Rattle.reader_sections.specs.Locations.{SideSays, LocatedSays, LocatedInSays};
-ghost use Rattle.reader_sections.specs.Steps.{Stands};
+ghost use Rattle.reader_sections.specs.Locations.{SideSays, EntireSays, LocatedSays, LocatedInSays};
 
 use crate::outline::read_outline;
-use crate::required_words::{latitude_at, longitude_at};
-use crate::steps::{Step, code_of, fixed_at, judged, perhaps_at, step_at};
+use crate::parts::Part;
+use crate::step::{Refused, Step};
+use coordinates::{latitude, longitude};
 use message::{Bound, Extent, Location, NO_POINTS, NO_SIDE, Side};
 use names::CLOSED_BY_CTA;
 
-#[derive(Clone, Copy)]
-pub(crate) struct LocationRead {
-    pub step: Step,
-    pub extent: Extent,
-}
-
-// The letter before OF where the word is N or S; 0 where it is neither.
-fn latitude_side(code: u64) -> u8
-    ensures { SideSays code 78 83 result }
+// The letter before OF, where the word of that code is one of the two.
+fn side_of(code: u64, plus: u64, minus: u64) -> Option<u8>
+    ensures { SideSays code plus minus result }
 {
-    if code == vocabulary::N {
-        return b'N';
+    if code == plus || code == minus {
+        Some((code % 256) as u8)
+    } else {
+        None
     }
-    if code == vocabulary::S {
-        return b'S';
-    }
-    0
-}
-
-// The same of E and W.
-fn longitude_side(code: u64) -> u8
-    ensures { SideSays code 69 87 result }
-{
-    if code == vocabulary::E {
-        return b'E';
-    }
-    if code == vocabulary::W {
-        return b'W';
-    }
-    0
 }
 
 fn bounded(latitude: Side, longitude: Side) -> Extent
@@ -57,85 +38,72 @@ fn bounded(latitude: Side, longitude: Side) -> Extent
 }
 
 // OF and a longitude, after `E` or `W`; a latitude bound may stand before it.
-fn read_longitude_bound(text: &[u8], from: Step, north: Side, side: u8, refusal: u8) -> LocationRead
-    requires { (Stands text.now from) × (0 < refusal) }
-    ensures { LocatedSays (at_longitude_of north side) refusal text.now from result.step result.extent }
+fn read_longitude_bound(step: Step, north: Side, of: u8, part: Part) -> Result<(Extent, Step), Refused>
+    ensures { LocatedSays (at_longitude_of north of) part step.entry result }
 {
-    let of = fixed_at(text, from, vocabulary::OF, refusal);
-    let meridian = longitude_at(text, of, refusal);
-    let step = meridian.step;
-    let at = meridian.coordinate;
-    let east = Side { of: side, at };
-    let extent = bounded(north, east);
-    LocationRead { step, extent }
+    let step = step.fixed(part, vocabulary::OF)?;
+    let (at, step) = step.required(part, longitude(step.word()))?;
+    Ok((bounded(north, Side { of, at }), step))
 }
 
 // After a latitude bound: perhaps AND and a longitude bound.
-fn read_second_bound(text: &[u8], from: Step, north: Side, refusal: u8) -> LocationRead
-    requires { (Stands text.now from) × (0 < refusal) }
-    ensures { LocatedSays (at_and north) refusal text.now from result.step result.extent }
+fn read_second_bound(step: Step, north: Side, part: Part) -> Result<(Extent, Step), Refused>
+    ensures { LocatedSays (at_and north) part step.entry result }
 {
-    let and = perhaps_at(text, from, vocabulary::AND);
-    if !and.found {
-        let step = and.step;
-        let extent = bounded(north, NO_SIDE);
-        return LocationRead { step, extent };
+    if let Some(step) = step.perhaps(vocabulary::AND) {
+        let side = side_of(step.code(), vocabulary::E, vocabulary::W);
+        let (side, step) = step.required(part, side)?;
+        return read_longitude_bound(step, north, side, part);
     }
-    let past = and.step;
-    let side = longitude_side(code_of(text, past));
-    let step = judged(text, past, side != 0, refusal);
-    read_longitude_bound(text, step, north, side, refusal)
+    Ok((bounded(north, NO_SIDE), step))
 }
 
 // OF and a latitude, after `N` or `S`, and what may follow.
-fn read_latitude_bound(text: &[u8], from: Step, side: u8, refusal: u8) -> LocationRead
-    requires { (Stands text.now from) × (0 < refusal) }
-    ensures { LocatedSays (at_latitude_of side) refusal text.now from result.step result.extent }
+fn read_latitude_bound(step: Step, of: u8, part: Part) -> Result<(Extent, Step), Refused>
+    ensures { LocatedSays (at_latitude_of of) part step.entry result }
 {
-    let of = fixed_at(text, from, vocabulary::OF, refusal);
-    let parallel = latitude_at(text, of, refusal);
-    let at = parallel.coordinate;
-    let north = Side { of: side, at };
-    read_second_bound(text, parallel.step, north, refusal)
+    let step = step.fixed(part, vocabulary::OF)?;
+    let (at, step) = step.required(part, latitude(step.word()))?;
+    read_second_bound(step, Side { of, at }, part)
 }
 
-// FIR, or CTA in a CTA, after ENTIRE.
-fn read_entire(text: &[u8], from: Step, closing: u8, refusal: u8) -> LocationRead
-    requires { (Stands text.now from) × (0 < refusal) }
-    ensures { LocatedInSays closing at_entire refusal text.now from result.step result.extent }
+// What the entire area is called.
+fn entire_code(closing: u8) -> u64
+    ensures { EntireSays closing result }
 {
-    let name = if closing == CLOSED_BY_CTA {
+    if closing == CLOSED_BY_CTA {
         vocabulary::CTA
     } else {
         vocabulary::FIR
-    };
-    let step = fixed_at(text, from, name, refusal);
-    LocationRead {
-        step,
-        extent: Extent {
-            location: Location::Entire,
-            points: NO_POINTS,
-        },
     }
 }
 
-// A bound by its first word, or the entire area, or an outline.
-pub(crate) fn read_location(text: &[u8], from: Step, closing: u8, refusal: u8) -> LocationRead
-    requires { (Stands text.now from) × (0 < refusal) }
-    ensures { LocatedInSays closing at_location refusal text.now from result.step result.extent }
+// FIR, or CTA in a CTA, after ENTIRE.
+fn read_entire(step: Step, closing: u8, part: Part) -> Result<(Extent, Step), Refused>
+    ensures { LocatedInSays closing at_entire part step.entry result }
 {
-    let code = code_of(text, from);
-    let north = latitude_side(code);
-    if north != 0 {
-        return read_latitude_bound(text, step_at(text, from.end), north, refusal);
+    let step = step.fixed(part, entire_code(closing))?;
+    let entire = Extent {
+        location: Location::Entire,
+        points: NO_POINTS,
+    };
+    Ok((entire, step))
+}
+
+// A bound by its first word, or the entire area, or an outline.
+pub(crate) fn read_location(step: Step, closing: u8, part: Part) -> Result<(Extent, Step), Refused>
+    ensures { LocatedInSays closing at_location part step.entry result }
+{
+    let code = step.code();
+    if let Some(north) = side_of(code, vocabulary::N, vocabulary::S) {
+        return read_latitude_bound(step.next(), north, part);
     }
-    let east = longitude_side(code);
-    if east != 0 {
-        return read_longitude_bound(text, step_at(text, from.end), NO_SIDE, east, refusal);
+    if let Some(east) = side_of(code, vocabulary::E, vocabulary::W) {
+        return read_longitude_bound(step.next(), NO_SIDE, east, part);
     }
     if code == vocabulary::ENTIRE {
-        return read_entire(text, step_at(text, from.end), closing, refusal);
+        return read_entire(step.next(), closing, part);
     }
-    let within = judged(text, from, code == vocabulary::WI, refusal);
-    read_outline(text, within, refusal)
+    let step = step.fixed(part, vocabulary::WI)?;
+    read_outline(step, part)
 }

@@ -1,56 +1,42 @@
 // Observation: OBS or FCST, perhaps AT GGggZ.
-ghost use Rattle.reader_sections.specs.Reports.{ObservedSays, ObservationSays};
-ghost use Rattle.reader_sections.specs.Steps.{Stands};
+ghost use Rattle.grammar.specs.States.{ToPhenomenon};
+ghost use Rattle.grammar.specs.States.Placing.{at_location};
+ghost use Rattle.grammar.specs.States.Site.{in_report};
+ghost use Rattle.grammar.specs.States.State.{at_observation, at_observed, at_place};
+ghost use Rattle.reader_sections.specs.Steps.{Leads};
 
-use crate::parts;
-use crate::required_words::time_at;
-use crate::steps::{Step, code_of, judged, perhaps_at, step_at};
+use crate::parts::Part;
+use crate::step::{Refused, Step};
+use groups::time_word;
 use message::{FORECAST, OBSERVED, Observation, UNTIMED};
 
-#[derive(Clone, Copy)]
-pub(crate) struct ObservationRead {
-    pub step: Step,
-    pub observation: Observation,
-}
-
 // Perhaps AT and a time, after the first word.
-fn read_observed(text: &[u8], from: Step, word: u8) -> ObservationRead
-    requires { Stands text.now from }
-    ensures { ObservedSays word text.now from result.step result.observation }
+fn read_observed(step: Step, word: u8) -> Result<(Observation, Step), Refused>
+    ensures { (p : ToPhenomenon) → Leads (at_observed p word) step.entry result (λ o. at_place (in_report (record { before = p; observation = o })) at_location) }
 {
-    let given = perhaps_at(text, from, vocabulary::AT);
-    if !given.found {
-        let step = given.step;
-        return ObservationRead {
-            step,
-            observation: Observation {
-                word,
-                timed: false,
-                time: UNTIMED,
-            },
-        };
-    }
-    let clock = time_at(text, given.step, parts::OBSERVATION);
-    let step = clock.step;
-    let time = clock.time;
-    ObservationRead {
-        step,
-        observation: Observation {
+    if let Some(step) = step.perhaps(vocabulary::AT) {
+        let (time, step) = step.required(Part::Observation, time_word(step.word()))?;
+        let observation = Observation {
             word,
             timed: true,
             time,
-        },
+        };
+        return Ok((observation, step));
     }
+    let observation = Observation {
+        word,
+        timed: false,
+        time: UNTIMED,
+    };
+    Ok((observation, step))
 }
 
-pub(crate) fn read_observation(text: &[u8], from: Step) -> ObservationRead
-    requires { Stands text.now from }
-    ensures { ObservationSays text.now from result.step result.observation }
+pub(crate) fn read_observation(step: Step) -> Result<(Observation, Step), Refused>
+    ensures { (p : ToPhenomenon) → Leads (at_observation p) step.entry result (λ o. at_place (in_report (record { before = p; observation = o })) at_location) }
 {
-    let code = code_of(text, from);
-    if code == vocabulary::OBS {
-        return read_observed(text, step_at(text, from.end), OBSERVED);
+    if let Some(step) = step.perhaps(vocabulary::OBS) {
+        return read_observed(step, OBSERVED);
     }
-    let forecast = judged(text, from, code == vocabulary::FCST, parts::OBSERVATION);
-    read_observed(text, forecast, FORECAST)
+    let step = step.fixed(Part::Observation, vocabulary::FCST)?;
+    read_observed(step, FORECAST)
 }

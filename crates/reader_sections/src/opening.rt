@@ -1,12 +1,15 @@
 // What every message begins with: heading, first line and area.
-ghost use Rattle.reader_sections.specs.Openings.{OpeningSays};
-ghost use Rattle.reader_sections.specs.Steps.{Stands};
+ghost use Rattle.std.specs.Prelude.{◌≡◌};
+ghost use Rattle.grammar.specs.Records.{formed};
+ghost use Rattle.grammar.specs.States.State.{at_designator, at_form};
+ghost use Rattle.reader_sections.specs.Openings.{area_in};
+ghost use Rattle.reader_sections.specs.Steps.{Leads};
 
 use crate::area::read_area;
 use crate::first_line::read_line;
 use crate::heading::read_heading;
-use crate::steps::Step;
-use message::{Area, FirstLine, Heading};
+use crate::step::{Refused, Step};
+use message::{Area, FirstLine, Form, Heading, Record, Report};
 
 #[derive(Clone, Copy)]
 pub(crate) struct Opening {
@@ -15,27 +18,31 @@ pub(crate) struct Opening {
     pub area: Area,
 }
 
-#[derive(Clone, Copy)]
-pub(crate) struct OpeningRead {
-    pub step: Step,
-    pub opening: Opening,
+impl Opening {
+    // The whole message that begins so.
+    pub(crate) fn message(self, form: Form, report: Report) -> Record
+        ensures { result ≡ formed (area_in self) form report }
+    {
+        Record {
+            heading: self.heading,
+            line: self.line,
+            area: self.area,
+            form,
+            report,
+        }
+    }
 }
 
-pub(crate) fn read_opening(text: &[u8], from: Step) -> OpeningRead
-    requires { Stands text.now from }
-    ensures { OpeningSays text.now from result.step result.opening }
+pub(crate) fn read_opening(step: Step) -> Result<(Opening, Step), Refused>
+    ensures { Leads at_designator step.entry result (λ o. at_form (area_in o)) }
 {
-    let headed = read_heading(text, from);
-    let lined = read_line(text, headed.step);
-    let placed = read_area(text, lined.step);
-    let step = placed.step;
-    let heading = headed.heading;
-    let line = lined.line;
-    let area = placed.area;
+    let (heading, step) = read_heading(step)?;
+    let (line, step) = read_line(step)?;
+    let (area, step) = read_area(step)?;
     let opening = Opening {
         heading,
         line,
         area,
     };
-    OpeningRead { step, opening }
+    Ok((opening, step))
 }

@@ -1,20 +1,36 @@
-// The refusal number of each part of a message: a word that does not fit is refused by the number of the part that it is judged as.
-pub(crate) const HEADING: u8 = 4;
+// The parts of a message, in the order of the paper: a word that does not fit is refused by the number of the part that it is judged as.
+ghost use Rattle.std.specs.Prelude.{◌≡◌};
+ghost use Rattle.reader_sections.specs.Parts.{part_number};
 
-pub(crate) const FIRST_LINE: u8 = 5;
+#[derive(Clone, Copy)]
+pub(crate) enum Part {
+    Heading,
+    FirstLine,
+    Area,
+    // A test, a cancellation or a phenomenon.
+    Form,
+    Observation,
+    Location,
+    Level,
+    Ending,
+    // A word where the `=` would be accepted.
+    End,
+}
 
-pub(crate) const AREA: u8 = 6;
-
-// A test, a cancellation or a phenomenon.
-pub(crate) const FORM: u8 = 7;
-
-pub(crate) const OBSERVATION: u8 = 8;
-
-pub(crate) const LOCATION: u8 = 9;
-
-pub(crate) const LEVEL: u8 = 10;
-
-pub(crate) const ENDING: u8 = 11;
-
-// A word where the `=` would be accepted.
-pub(crate) const END: u8 = 12;
+impl Part {
+    pub(crate) fn number(self) -> u8
+        ensures { result ≡ part_number self }
+    {
+        match self {
+            Part::Heading => 4,
+            Part::FirstLine => 5,
+            Part::Area => 6,
+            Part::Form => 7,
+            Part::Observation => 8,
+            Part::Location => 9,
+            Part::Level => 10,
+            Part::Ending => 11,
+            Part::End => 12,
+        }
+    }
+}

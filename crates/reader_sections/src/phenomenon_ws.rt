@@ -1,11 +1,12 @@
 // Phenomenon of a WS, kept by its number in the paper's order: two words, and `SEV ICE (FZRA)` of three.
 ghost use Rattle.std.specs.Prelude.{◌≤◌};
+ghost use Rattle.grammar.specs.States.{ToArea};
 ghost use Rattle.grammar.specs.States.State.{at_storm, at_severe, at_heavy, at_radioactive};
-ghost use Rattle.reader_sections.specs.Phenomena.{WeatherFrom, WeatherSays};
-ghost use Rattle.reader_sections.specs.Steps.{Stands};
+ghost use Rattle.reader_sections.specs.Phenomena.{observing, WeatherSays};
+ghost use Rattle.reader_sections.specs.Steps.{Leads};
 
-use crate::parts;
-use crate::steps::{Step, code_of, fixed_at, judged, perhaps_at, step_at};
+use crate::parts::Part;
+use crate::step::{Refused, Step};
 use figures::find;
 use message::{HVY_DS, HVY_SS, RDOACT_CLD, SEV_ICE, SEV_ICE_FZRA, SEV_MTW, SEV_TURB};
 
@@ -17,114 +18,67 @@ const STORMS: [u64; 4] = [
     vocabulary::SQL,
 ];
 
-#[derive(Clone, Copy)]
-pub(crate) struct WeatherRead {
-    pub step: Step,
-    pub phenomenon: u8,
-}
-
 // TS or TSGR, after the first word of a storm: 1 OBSC to 4 SQL.
-fn read_storm(text: &[u8], from: Step, storm: u8) -> WeatherRead
-    requires { (Stands text.now from) × ((1 ≤ storm) × (storm ≤ 4)) }
-    ensures { WeatherFrom (λ o. at_storm o storm) text.now from result.step result.phenomenon }
+fn read_storm(step: Step, storm: u8) -> Result<(u8, Step), Refused>
+    requires { (1 ≤ storm) × (storm ≤ 4) }
+    ensures { (o : ToArea) → Leads (at_storm o storm) step.entry result (observing o) }
 {
-    let code = code_of(text, from);
-    if code == vocabulary::TS {
-        let step = step_at(text, from.end);
-        return WeatherRead {
-            step,
-            phenomenon: 2 * storm - 1,
-        };
+    if let Some(step) = step.perhaps(vocabulary::TS) {
+        return Ok((2 * storm - 1, step));
     }
-    let step = judged(text, from, code == vocabulary::TSGR, parts::FORM);
-    WeatherRead {
-        step,
-        phenomenon: 2 * storm,
-    }
+    let step = step.fixed(Part::Form, vocabulary::TSGR)?;
+    Ok((2 * storm, step))
 }
 
 // TURB, ICE, ICE (FZRA) or MTW, after SEV.
-fn read_severe(text: &[u8], from: Step) -> WeatherRead
-    requires { Stands text.now from }
-    ensures { WeatherFrom at_severe text.now from result.step result.phenomenon }
+fn read_severe(step: Step) -> Result<(u8, Step), Refused>
+    ensures { (o : ToArea) → Leads (at_severe o) step.entry result (observing o) }
 {
-    let code = code_of(text, from);
-    if code == vocabulary::TURB {
-        let step = step_at(text, from.end);
-        return WeatherRead {
-            step,
-            phenomenon: SEV_TURB,
-        };
+    if let Some(step) = step.perhaps(vocabulary::TURB) {
+        return Ok((SEV_TURB, step));
     }
-    if code == vocabulary::MTW {
-        let step = step_at(text, from.end);
-        return WeatherRead {
-            step,
-            phenomenon: SEV_MTW,
-        };
+    if let Some(step) = step.perhaps(vocabulary::MTW) {
+        return Ok((SEV_MTW, step));
     }
-    let ice = judged(text, from, code == vocabulary::ICE, parts::FORM);
-    let rain = perhaps_at(text, ice, vocabulary::FREEZING_RAIN);
-    let step = rain.step;
-    if rain.found {
-        return WeatherRead {
-            step,
-            phenomenon: SEV_ICE_FZRA,
-        };
+    let step = step.fixed(Part::Form, vocabulary::ICE)?;
+    if let Some(step) = step.perhaps(vocabulary::FREEZING_RAIN) {
+        return Ok((SEV_ICE_FZRA, step));
     }
-    WeatherRead {
-        step,
-        phenomenon: SEV_ICE,
-    }
+    Ok((SEV_ICE, step))
 }
 
 // DS or SS, after HVY.
-fn read_heavy(text: &[u8], from: Step) -> WeatherRead
-    requires { Stands text.now from }
-    ensures { WeatherFrom at_heavy text.now from result.step result.phenomenon }
+fn read_heavy(step: Step) -> Result<(u8, Step), Refused>
+    ensures { (o : ToArea) → Leads (at_heavy o) step.entry result (observing o) }
 {
-    let code = code_of(text, from);
-    if code == vocabulary::DS {
-        let step = step_at(text, from.end);
-        return WeatherRead {
-            step,
-            phenomenon: HVY_DS,
-        };
+    if let Some(step) = step.perhaps(vocabulary::DS) {
+        return Ok((HVY_DS, step));
     }
-    let step = judged(text, from, code == vocabulary::SS, parts::FORM);
-    WeatherRead {
-        step,
-        phenomenon: HVY_SS,
-    }
+    let step = step.fixed(Part::Form, vocabulary::SS)?;
+    Ok((HVY_SS, step))
 }
 
 // CLD, after RDOACT.
-fn read_radioactive(text: &[u8], from: Step) -> WeatherRead
-    requires { Stands text.now from }
-    ensures { WeatherFrom at_radioactive text.now from result.step result.phenomenon }
+fn read_radioactive(step: Step) -> Result<(u8, Step), Refused>
+    ensures { (o : ToArea) → Leads (at_radioactive o) step.entry result (observing o) }
 {
-    let step = fixed_at(text, from, vocabulary::CLD, parts::FORM);
-    WeatherRead {
-        step,
-        phenomenon: RDOACT_CLD,
-    }
+    let step = step.fixed(Part::Form, vocabulary::CLD)?;
+    Ok((RDOACT_CLD, step))
 }
 
-pub(crate) fn read_weather(text: &[u8], from: Step) -> WeatherRead
-    requires { Stands text.now from }
-    ensures { WeatherSays text.now from result.step result.phenomenon }
+pub(crate) fn read_weather(step: Step) -> Result<(u8, Step), Refused>
+    ensures { WeatherSays step.entry result }
 {
-    let code = code_of(text, from);
-    let storm = find(&STORMS, code);
-    if storm < 4 {
-        return read_storm(text, step_at(text, from.end), (storm + 1) as u8);
+    let code = step.code();
+    if let Some(storm) = find(&STORMS, code) {
+        return read_storm(step.next(), storm as u8 + 1);
     }
     if code == vocabulary::SEV {
-        return read_severe(text, step_at(text, from.end));
+        return read_severe(step.next());
     }
     if code == vocabulary::HVY {
-        return read_heavy(text, step_at(text, from.end));
+        return read_heavy(step.next());
     }
-    let cloud = judged(text, from, code == vocabulary::RDOACT, parts::FORM);
-    read_radioactive(text, cloud)
+    let step = step.fixed(Part::Form, vocabulary::RDOACT)?;
+    read_radioactive(step)
 }

@@ -1,80 +1,53 @@
 // Phenomenon of a WV: VA CLD, or VA ERUPTION, perhaps MT and a name, PSN, a point, VA CLD.
-ghost use Rattle.reader_sections.specs.Steps.{Stands};
-ghost use Rattle.reader_sections.specs.Phenomena.{MountainSays, EruptionSays, AshSays};
+ghost use Rattle.grammar.specs.States.{ToArea};
+ghost use Rattle.grammar.specs.States.State.{at_eruption, at_position};
+ghost use Rattle.reader_sections.specs.Phenomena.{erupting, AshSays};
+ghost use Rattle.reader_sections.specs.Steps.{Leads};
 
-use crate::name::{NameRead, read_name};
-use crate::parts;
-use crate::required_words::{latitude_at, longitude_at};
-use crate::steps::{Step, fixed_at, long_at, perhaps_at};
-use coordinates::Point;
-use message::{ASH_CLOUD, ASH_ERUPTION, MOUNTAIN_BYTES, NO_NAME, NO_VOLCANO, Volcano};
-
-#[derive(Clone, Copy)]
-pub(crate) struct PhenomenonRead {
-    pub step: Step,
-    pub phenomenon: u8,
-    pub volcano: Volcano,
-}
+use crate::name::read_name;
+use crate::parts::Part;
+use crate::step::{Refused, Step};
+use coordinates::{Point, latitude, longitude};
+use message::{ASH_CLOUD, ASH_ERUPTION, MOUNTAIN_BYTES, NO_NAME, NO_VOLCANO, Name, Volcano};
 
 // Perhaps MT and a name, then PSN.
-fn read_mountain(text: &[u8], from: Step) -> NameRead
-    requires { Stands text.now from }
-    ensures { MountainSays text.now from result.step result.name }
+fn read_mountain(step: Step) -> Result<(Name, Step), Refused>
+    ensures { (o : ToArea) → Leads (at_eruption o) step.entry result (at_position o) }
 {
-    let mount = perhaps_at(text, from, vocabulary::MT);
-    if !mount.found {
-        let step = fixed_at(text, mount.step, vocabulary::PSN, parts::FORM);
-        return NameRead {
-            step,
-            name: NO_NAME,
-        };
+    if let Some(step) = step.perhaps(vocabulary::MT) {
+        let (name, step) = read_name(step, true, MOUNTAIN_BYTES, Part::Form)?;
+        let step = step.fixed(Part::Form, vocabulary::PSN)?;
+        return Ok((name, step));
     }
-    let named = read_name(text, mount.step, true, MOUNTAIN_BYTES, parts::FORM);
-    let step = fixed_at(text, named.step, vocabulary::PSN, parts::FORM);
-    let name = named.name;
-    NameRead { step, name }
+    let step = step.fixed(Part::Form, vocabulary::PSN)?;
+    Ok((NO_NAME, step))
 }
 
 // What follows VA ERUPTION.
-fn read_eruption(text: &[u8], from: Step) -> PhenomenonRead
-    requires { Stands text.now from }
-    ensures { EruptionSays text.now from result.step result.phenomenon result.volcano }
+fn read_eruption(step: Step) -> Result<(Volcano, Step), Refused>
+    ensures { (o : ToArea) → Leads (at_eruption o) step.entry result (erupting o) }
 {
-    let mount = read_mountain(text, from);
-    let north = latitude_at(text, mount.step, parts::FORM);
-    let east = longitude_at(text, north.step, parts::FORM);
-    let ash = fixed_at(text, east.step, vocabulary::VA, parts::FORM);
-    let step = fixed_at(text, ash, vocabulary::CLD, parts::FORM);
-    let name = mount.name;
-    let latitude = north.coordinate;
-    let longitude = east.coordinate;
-    PhenomenonRead {
-        step,
-        phenomenon: ASH_ERUPTION,
-        volcano: Volcano {
-            name,
-            position: Point {
-                latitude,
-                longitude,
-            },
-        },
-    }
+    let (name, step) = read_mountain(step)?;
+    let (latitude, step) = step.required(Part::Form, latitude(step.word()))?;
+    let (longitude, step) = step.required(Part::Form, longitude(step.word()))?;
+    let step = step.fixed(Part::Form, vocabulary::VA)?;
+    let step = step.fixed(Part::Form, vocabulary::CLD)?;
+    let position = Point {
+        latitude,
+        longitude,
+    };
+    Ok((Volcano { name, position }, step))
 }
 
-pub(crate) fn read_ash(text: &[u8], from: Step) -> PhenomenonRead
-    requires { Stands text.now from }
-    ensures { AshSays text.now from result.step result.phenomenon result.volcano }
+// The number of the phenomenon, and the volcano of an eruption.
+pub(crate) fn read_ash(step: Step) -> Result<((u8, Volcano), Step), Refused>
+    ensures { AshSays step.entry result }
 {
-    let ash = fixed_at(text, from, vocabulary::VA, parts::FORM);
-    let cloud = perhaps_at(text, ash, vocabulary::CLD);
-    if cloud.found {
-        let step = cloud.step;
-        return PhenomenonRead {
-            step,
-            phenomenon: ASH_CLOUD,
-            volcano: NO_VOLCANO,
-        };
+    let step = step.fixed(Part::Form, vocabulary::VA)?;
+    if let Some(step) = step.perhaps(vocabulary::CLD) {
+        return Ok(((ASH_CLOUD, NO_VOLCANO), step));
     }
-    let erupts = long_at(text, cloud.step, &vocabulary::ERUPTION, parts::FORM);
-    read_eruption(text, erupts)
+    let step = step.long(Part::Form, &vocabulary::ERUPTION)?;
+    let (volcano, step) = read_eruption(step)?;
+    Ok(((ASH_ERUPTION, volcano), step))
 }

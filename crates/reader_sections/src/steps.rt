@@ -1,132 +1,111 @@
-// Where the reading stands, and how one word moves it on. A step stands before a word that is found already; a refused step stays, before an
-// empty word, and what comes after it hands it on.
+// One word at a step: required, perhaps there, or refused.
 ghost use Rattle.std.specs.Prelude.{◌≡◌, ◌≤◌, ◌<◌, length};
-ghost use Rattle.lists.specs.Lists.{part};
 ghost use Rattle.figures.specs.Codes.{code_of};
-ghost use Rattle.reader_sections.specs.Steps.{word_on, WordAt, Stands, Before, Judged, TakesFixed, TakesLong, MayTake, Closes};
+ghost use Rattle.reader_sections.specs.Steps.{word_on, Before, Next, Refuses, Required, Fixed, Long, Perhaps, Ended};
 
-use crate::parts;
+use crate::parts::Part;
+use crate::step::{Refused, Step};
 use figures::code;
 use vocabulary::same_word;
-use words::{Span, word_at};
+use words::word_at;
 
-// Number 0: the next word is that from the place to the end. Any other: the word at the place is refused, and the end is the place.
-#[derive(Clone, Copy)]
-pub(crate) struct Step {
-    pub number: u8,
-    pub place: usize,
-    pub end: usize,
-}
-
-// Where a word that may be left out is not found, the step stays before the word that is there.
-#[derive(Clone, Copy)]
-pub(crate) struct PerhapsRead {
-    pub found: bool,
-    pub step: Step,
-}
-
-// The next word from a place on, within the text.
-fn span_at(text: &[u8], at: usize) -> Span
-    requires { at ≤ length text.now }
-    ensures { WordAt text.now at result.start result.end }
-{
-    word_at(text, at)
-}
-
-// The step before the next word from a place on.
-pub(crate) fn step_at(text: &[u8], at: usize) -> Step
-    requires { at ≤ length text.now }
-    ensures { Before text.now at result }
-{
-    let next = span_at(text, at);
-    Step {
-        number: 0,
-        place: next.start,
-        end: next.end,
+impl<'a> Step<'a> {
+    // The step before the next word from a place on.
+    pub(crate) fn at(text: &'a [u8], place: usize) -> Step<'a>
+        requires { place ≤ length text.now }
+        ensures { Before text.now place result }
+    {
+        let next = word_at(text, place);
+        Step {
+            text,
+            place: next.start,
+            end: next.end,
+        }
     }
-}
 
-// The step past a good word; any other word is refused, if it was not already. No empty word is good.
-pub(crate) fn judged(text: &[u8], from: Step, good: bool, refusal: u8) -> Step
-    requires { (Stands text.now from) × (0 < refusal) }
-    ensures { Judged text.now from good refusal result }
-{
-    if good {
-        return step_at(text, from.end);
+    // The step past the word.
+    pub(crate) fn next(self) -> Step<'a>
+        ensures { Next self.entry result }
+    {
+        Step::at(self.text, self.end)
     }
-    if from.number != 0 {
-        return from;
-    }
-    Step {
-        number: refusal,
-        place: from.place,
-        end: from.place,
-    }
-}
 
-// The code of the word at a step.
-pub(crate) fn code_of(text: &[u8], from: Step) -> u64
-    requires { Stands text.now from }
-    ensures { result ≡ code_of (word_on text.now from) }
-{
-    let start = from.place;
-    let end = from.end;
-    code(&text[start..end])
-}
-
-// A fixed word that has to come.
-pub(crate) fn fixed_at(text: &[u8], from: Step, wanted: u64, refusal: u8) -> Step
-    requires { (Stands text.now from) × (0 < refusal) }
-    ensures { TakesFixed wanted refusal text.now from result }
-{
-    let code = code_of(text, from);
-    judged(text, from, code == wanted, refusal)
-}
-
-// A fixed word that may be left out.
-pub(crate) fn perhaps_at(text: &[u8], from: Step, wanted: u64) -> PerhapsRead
-    requires { Stands text.now from }
-    ensures { MayTake wanted text.now from result.found result.step }
-{
-    let code = code_of(text, from);
-    if code == wanted {
-        let step = step_at(text, from.end);
-        return PerhapsRead { found: true, step };
+    // What the text has of the word: nothing of the `=`.
+    pub(crate) fn word(self) -> &'a [u8]
+        ensures { result.now ≡ word_on self.entry }
+    {
+        &self.text[self.place..self.end]
     }
-    PerhapsRead {
-        found: false,
-        step: from,
-    }
-}
 
-// A fixed word of more than seven bytes, which has no code.
-pub(crate) fn long_at(text: &[u8], from: Step, wanted: &[u8], refusal: u8) -> Step
-    requires { (Stands text.now from) × ((1 < length wanted.now) × (0 < refusal)) }
-    ensures { TakesLong wanted.now refusal text.now from result }
-{
-    let start = from.place;
-    let end = from.end;
-    let found = same_word(&text[start..end], wanted);
-    judged(text, from, found, refusal)
-}
+    pub(crate) fn code(self) -> u64
+        ensures { result ≡ code_of (word_on self.entry) }
+    {
+        code(self.word())
+    }
 
-// After the last part only the `=` may come, of which the text has no byte: a word is refused by 12, and the whole answers number and place 0.
-pub(crate) fn concluding(from: Step) -> Step
-    ensures { Closes from result }
-{
-    if from.number != 0 {
-        return from;
+    // The refusal of the word, as that part. The `=` has one byte.
+    pub(crate) fn refused(self, part: Part) -> Refused
+        ensures { Refuses part self.entry result }
+    {
+        let length = self.end - self.place;
+        Refused {
+            part,
+            place: self.place,
+            length: if length == 0 { 1 } else { length },
+        }
     }
-    if from.place == from.end {
-        return Step {
-            number: 0,
-            place: 0,
-            end: 0,
-        };
+
+    // A word that has to have a value, which was read of it.
+    pub(crate) fn required<T>(self, part: Part, value: Option<T>) -> Result<(T, Step<'a>), Refused>
+        ensures { Required part self.entry value result }
+    {
+        match value {
+            Some(value) => Ok((value, self.next())),
+            None => Err(self.refused(part)),
+        }
     }
-    Step {
-        number: parts::END,
-        place: from.place,
-        end: from.place,
+
+    // A fixed word that has to come.
+    pub(crate) fn fixed(self, part: Part, wanted: u64) -> Result<Step<'a>, Refused>
+        ensures { Fixed part wanted self.entry result }
+    {
+        if self.code() == wanted {
+            Ok(self.next())
+        } else {
+            Err(self.refused(part))
+        }
+    }
+
+    // A fixed word of more than seven bytes, which has no code.
+    pub(crate) fn long(self, part: Part, wanted: &[u8]) -> Result<Step<'a>, Refused>
+        ensures { Long part wanted.now self.entry result }
+    {
+        if same_word(self.word(), wanted) {
+            Ok(self.next())
+        } else {
+            Err(self.refused(part))
+        }
+    }
+
+    // A fixed word that may be left out.
+    pub(crate) fn perhaps(self, wanted: u64) -> Option<Step<'a>>
+        ensures { Perhaps wanted self.entry result }
+    {
+        if self.code() == wanted {
+            Some(self.next())
+        } else {
+            None
+        }
+    }
+
+    // After the last part only the `=` may come.
+    pub(crate) fn ended(self) -> Result<(), Refused>
+        ensures { Ended self.entry result }
+    {
+        if self.place == self.end {
+            Ok(())
+        } else {
+            Err(self.refused(Part::End))
+        }
     }
 }

@@ -1,48 +1,44 @@
 // A test: TEST, or TEST SIGMET PLEASE DISREGARD, or TEST. THIS IS A TEST SIGMET, PLEASE DISREGARD.
-ghost use Rattle.reader_sections.specs.Forms.{PleaseSays, TestSays, LongTestSays};
-ghost use Rattle.reader_sections.specs.Steps.{Stands};
+ghost use Rattle.message.specs.Reports.{no_report};
+ghost use Rattle.grammar.specs.Records.{formed};
+ghost use Rattle.grammar.specs.States.{ToArea};
+ghost use Rattle.grammar.specs.States.State.{at_test, at_test_text, at_end};
+ghost use Rattle.grammar.specs.Records.{test_of};
+ghost use Rattle.reader_sections.specs.Steps.{Moves, Leads};
 
-use crate::parts;
-use crate::steps::{Step, fixed_at, long_at, perhaps_at};
-
-#[derive(Clone, Copy)]
-pub(crate) struct TestRead {
-    pub step: Step,
-    pub test: u8,
-}
+use crate::parts::Part;
+use crate::step::{Refused, Step};
+use message::Form;
 
 // PLEASE DISREGARD, the end of both longer texts.
-fn read_please(text: &[u8], from: Step) -> Step
-    requires { Stands text.now from }
-    ensures { PleaseSays text.now from result }
+fn read_please(step: Step) -> Result<Step, Refused>
+    ensures second { (o : ToArea) → Moves (at_test_text o 2 2) step.entry result (at_end (test_of o 2)) }
+    ensures third { (o : ToArea) → Moves (at_test_text o 3 6) step.entry result (at_end (test_of o 3)) }
 {
-    let please = fixed_at(text, from, vocabulary::PLEASE, parts::FORM);
-    long_at(text, please, &vocabulary::DISREGARD, parts::FORM)
+    let step = step.fixed(Part::Form, vocabulary::PLEASE)?;
+    step.long(Part::Form, &vocabulary::DISREGARD)
 }
 
 // The text after `TEST.`.
-pub(crate) fn read_long_test(text: &[u8], from: Step) -> Step
-    requires { Stands text.now from }
-    ensures { LongTestSays text.now from result }
+pub(crate) fn read_long_test(step: Step) -> Result<(Form, Step), Refused>
+    ensures { (o : ToArea) → Leads (at_test_text o 3 1) step.entry result (λ f. at_end (formed o f no_report)) }
 {
-    let this = fixed_at(text, from, vocabulary::THIS, parts::FORM);
-    let is = fixed_at(text, this, vocabulary::IS, parts::FORM);
-    let a = fixed_at(text, is, vocabulary::A, parts::FORM);
-    let test = fixed_at(text, a, vocabulary::TEST, parts::FORM);
-    let sigmet = fixed_at(text, test, vocabulary::SIGMET_COMMA, parts::FORM);
-    read_please(text, sigmet)
+    let step = step.fixed(Part::Form, vocabulary::THIS)?;
+    let step = step.fixed(Part::Form, vocabulary::IS)?;
+    let step = step.fixed(Part::Form, vocabulary::A)?;
+    let step = step.fixed(Part::Form, vocabulary::TEST)?;
+    let step = step.fixed(Part::Form, vocabulary::SIGMET_COMMA)?;
+    let step = read_please(step)?;
+    Ok((Form::Test(3), step))
 }
 
 // What may follow `TEST`.
-pub(crate) fn read_test(text: &[u8], from: Step) -> TestRead
-    requires { Stands text.now from }
-    ensures { TestSays text.now from result.step result.test }
+pub(crate) fn read_test(step: Step) -> Result<(Form, Step), Refused>
+    ensures { (o : ToArea) → Leads (at_test o) step.entry result (λ f. at_end (formed o f no_report)) }
 {
-    let sigmet = perhaps_at(text, from, vocabulary::SIGMET);
-    if !sigmet.found {
-        let step = sigmet.step;
-        return TestRead { step, test: 1 };
+    if let Some(step) = step.perhaps(vocabulary::SIGMET) {
+        let step = read_please(step)?;
+        return Ok((Form::Test(2), step));
     }
-    let step = read_please(text, sigmet.step);
-    TestRead { step, test: 2 }
+    Ok((Form::Test(1), step))
 }

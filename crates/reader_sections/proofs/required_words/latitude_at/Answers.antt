@@ -1,8 +1,0 @@
--- `latitude_at` meets its contract.
-use Rattle.reader_sections.proofs.Leads.{takes-by-field}
-use Rattle.reader_sections.proofs.Tells.{latitude-tells}
-use borrow.Author.Rules.{rules}
-use Rattle.reader_sections.proofs.required_words.latitude_at.Goals as goal
-
-pub returns : goal.returns
-returns c = takes-by-field latitude-tells (search rules) (search rules) (search rules)

@@ -1,8 +1,0 @@
--- `longitude_at` meets its contract.
-use Rattle.reader_sections.proofs.Leads.{takes-by-field}
-use Rattle.reader_sections.proofs.Tells.{longitude-tells}
-use borrow.Author.Rules.{rules}
-use Rattle.reader_sections.proofs.required_words.longitude_at.Goals as goal
-
-pub returns : goal.returns
-returns c = takes-by-field longitude-tells (search rules) (search rules) (search rules)
