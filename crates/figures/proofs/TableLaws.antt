@@ -51,8 +51,15 @@ table-reads table t = record {
   refuses = le-ltb (length table) (length table) (le_refl (length table));
 }
 
--- The number that a code tells, where the codes of the words are tried in their order.
+-- the number of a word, where it is one of the table
+pub number_found : (first : ℕ) (table : List (List ℕ)) (w : List ℕ) → 0 < first → found (in_numbers first table) (number_in first table w) ≡ pick (in_table table (word_in table w)) (Some (first + word_in table w)) None
+number_found first table w pos =
+    by (in_table table (word_in table w))
+    (λ e. let within : word_in table w < length table = ltb-true (word_in table w) (length table) e in
+    rw (e, le-leb first (first + word_in table w) (omega arith), le-leb (first + word_in table w) (first + length table - 1) (omega arith)))
+    (λ f. rw (f, lt-leb first 0 pos))
 
+-- the number that a code tells, where the codes of the words are tried in their order
 abbrev pub coded : ℕ → List (List ℕ) → ℕ → Option ℕ
 coded first [] c = None
 coded first (k ∷ ks) c = pick (eqb c (code_of k)) (Some first) (coded (suc first) ks c)
@@ -69,12 +76,7 @@ coded-word first (k ∷ ks) w s =
     (λ f. rw (here, f, leb-suc-suc (suc m) (length ks), next) (coded-word (suc first) ks w (both_right (short k) (all_of short ks) s)))
 
 pub number-coded : (first : ℕ) (table : List (List ℕ)) (w : List ℕ) → 0 < first → all_of short table ≡ true → found (in_numbers first table) (number_in first table w) ≡ coded first table (code_of w)
-number-coded first table w pos s =
-    let told : pick (in_table table (word_in table w)) (Some (first + word_in table w)) None ≡ coded first table (code_of w) = coded-word first table w s in
-    by (in_table table (word_in table w))
-    (λ e. let within : word_in table w < length table = ltb-true (word_in table w) (length table) e in
-    rw (e, le-leb first (first + word_in table w) (omega arith), le-leb (first + word_in table w) (first + length table - 1) (omega arith)) (rw e at told))
-    (λ f. rw (f, lt-leb first 0 pos) (rw f at told))
+number-coded first table w pos s = number_found first table w pos ∙ coded-word first table w s
 
 -- what holds of every word of a table holds of the word of a number
 pub numbered-all : (f : List ℕ → Bool) (first : ℕ) (table : List (List ℕ)) → 0 < length table → all_of f table ≡ true → (n : ℕ) → in_numbers first table n ≡ true → f (numbered first table n) ≡ true

@@ -7,16 +7,20 @@ use Prim.Native.Nat.{ℕ, suc, ◌+◌, ◌-◌, ◌≤◌, ◌<◌, zero-le, su
 use native.Mathlib.Nat.{not-suc-le-zero}
 use native.Mathlib.Omega.{arith}
 use lib.Dec.{ltb, eqb, lit<}
-use lib.ListN.{length, take, drop, get_or, length-drop}
+use lib.ListN.{length, take, drop, get_or}
 use lib.Seq.{split_at, drop-drop}
-use borrow.Author.Tests.{lt-ltb, eqb-true, eqb-false, eq-eqb, ne_eqb, not-true}
+use borrow.Author.Tests.{ltb-true, ltb-false, eqb-true, eqb-false, eq-eqb, ne_eqb, not-true}
 use Rattle.lists.specs.Base.{worth_after}
-use Rattle.lists.specs.Choice.{both}
-use Rattle.lists.specs.Lists.{index_of, index_from, all_of, part, same}
+use Rattle.std.specs.Prelude.{Option, Some, None, position}
+use Rattle.std.specs.Option.{is_some}
+use Rattle.std.specs.List.{list_all}
+use Rattle.lists.specs.Choice.{pick, both, found}
+use Rattle.lists.specs.Lists.{index_of, all_of, part, same}
 use Rattle.lists.specs.Text.{bytes}
 use Rattle.lists.proofs.Choice.{by, clash, both-unit, both_left, both_right, both_true, either-cases}
 use Rattle.lists.proofs.Lists.{index-found, index-clear, index-all, all_append, all-weaken}
 use Rattle.lists.proofs.Parts.{part-rest}
+use Rattle.lists.proofs.Words.{position-found, all-list}
 use Rattle.words.specs.Bytes.{letter, solid, allowed, plain}
 use Rattle.words.specs.Words.{plain_word, line}
 use Rattle.words.proofs.Words.{run-all}
@@ -25,9 +29,9 @@ use Rattle.figures.specs.Tables.{distinct, word_in, in_table, numbered}
 use Rattle.figures.specs.Reads.{Reads}
 use Rattle.figures.proofs.CodeLaws.{same_code}
 use Rattle.figures.proofs.PlainLaws.{letter-plain, byte-solid}
-use Rattle.figures.proofs.TableLaws.{numbered-all, numbers-reads}
+use Rattle.figures.proofs.TableLaws.{number_found, number-coded, numbered-all, numbers-reads}
 use Rattle.vocabulary.specs.Codes.{code-psn}
-use Rattle.names.specs.Names.{closing_words, closing_of, good_closing, name_byte, name_word, closers, in_name, onto, pieces, name_text}
+use Rattle.names.specs.Names.{closing_words, position_words, closing_of, good_closing, name_byte, name_word, closers, in_name, onto, pieces, name_text}
 
 -- Closing words.
 
@@ -35,23 +39,25 @@ pub closing-reads : Reads closing_of (numbered 1 closing_words) good_closing 0
 unfolding closing_words distinct all_of same
 closing-reads = numbers-reads 1 closing_words (lit< tt) (lit< tt) refl
 
--- Words of a name.
+-- a word's code tells its number
+pub closing_codes : (w : List ℕ) → found good_closing (closing_of w) ≡ pick (eqb (code_of w) 0x01464952) (Some 1) (pick (eqb (code_of w) 0x014649522f554952) (Some 2) (pick (eqb (code_of w) 0x01435441) (Some 3) None))
+unfolding closing_words code_of worth_after all_of
+closing_codes w = number-coded 1 closing_words w (lit< tt) refl
 
--- the three tests that `name_word` makes of a word that is not empty
-pub word-tests : (w : List ℕ) {all first last ends r : Bool} → 0 < length w → all ≡ all_of name_byte w → first ≡ letter (get_or w 0 0) → last ≡ letter (get_or w (length w - 1) 0)
-    → ends ≡ both first last → r ≡ both all ends → r ≡ name_word w
-unfolding name_word
-word-tests w h a f l e r = rw (r, e, lt-ltb 0 (length w) h, a, f, l)
+-- the code of a closing word tells it
+pub area_closes : (w : List ℕ) → is_some (found good_closing (closing_of w)) ≡ in_table closing_words (word_in closing_words w)
+area_closes w = rw (number_found 1 closing_words w (lit< tt)) (by (in_table closing_words (word_in closing_words w)) (λ e. rw e) (λ e. rw e))
 
--- a word that a name may have, by the number or the code that the code compares
-pub area-word : (w : List ℕ) → both (name_word w) (eqb (closing_of w) 0) ≡ in_name false w
-area-word w = by (in_table closing_words (word_in closing_words w)) (λ e. rw (e, ne_eqb (1 + word_in closing_words w) 0 (λ q. omega arith))) (λ e. rw e)
-
-pub mountain-word : (w : List ℕ) → both (name_word w) (not (eqb (code_of w) code-psn)) ≡ in_name true w
+pub mountain_closes : (w : List ℕ) → eqb (code_of w) code-psn ≡ in_table position_words (word_in position_words w)
 unfolding index_of all_of code_of worth_after
-mountain-word w =
+mountain_closes w =
     let k : eqb (code_of w) code-psn ≡ same w (bytes "PSN") = same_code w (bytes "PSN") refl in
     by (same w (bytes "PSN")) (λ e. rw (k, e)) (λ e. rw (k, e))
+
+-- Words of a name.
+
+pub name_bytes : (w : List ℕ) → list_all name_byte w ≡ all_of name_byte w
+name_bytes w = sym (all-list name_byte w)
 
 -- What stands between the spaces of a text.
 
@@ -139,37 +145,45 @@ all_one : (f : List ℕ → Bool) (w : List ℕ) → all_of f (w ∷ []) ≡ f w
 unfolding all_of
 all_one f w = both-unit (f w)
 
--- What `name_text` keeps: all pieces from place `at` on are still to be tested, and the first of them ends at place `stop`.
+-- What `name_text` finds in what is left of the text, its first space or none; `r` is what the code found.
 
-pub record Cut (m : Bool) (t : List ℕ) (at stop : ℕ) : Type 0 where
-  pub within : at ≤ length t
-  pub found : stop ≡ index_from (eqb 32) at t
-  pub rest : name_text m t ≡ all_of (in_name m) (pieces (drop at t))
+module _ (t : List ℕ) {r : Option ℕ} (e : r ≡ position (eqb 32) t) where
+  told : r ≡ found (λ (n : ℕ). ltb n (length t)) (index_of (eqb 32) t)
+  told = e ∙ position-found (eqb 32) t
 
-pub cut-begins : (m : Bool) (t : List ℕ) {stop : ℕ} → stop ≡ index_from (eqb 32) 0 t → Cut m t 0 stop
-unfolding name_text
-cut-begins m t e = record { within = zero-le; found = e; rest = refl }
+  space-found : (k : ℕ) → r ≡ Some k → (k ≡ index_of (eqb 32) t) × (index_of (eqb 32) t < length t)
+  space-found k f =
+      by (ltb (index_of (eqb 32) t) (length t))
+      (λ h. let here : Some k ≡ Some (index_of (eqb 32) t) = sym f ∙ rw h at told in
+      (cc, ltb-true (index_of (eqb 32) t) (length t) h))
+      (λ h. let nowhere : Some k ≡ None = sym f ∙ rw h at told in
+      absurd (cc))
 
-module _ (m : Bool) (t : List ℕ) {at stop : ℕ} (c : Cut m t at stop) where
-  cut-first : stop < length t → name_text m t ≡ both (in_name m (part at stop t)) (all_of (in_name m) (pieces (drop (stop + 1) t)))
-  unfolding all_of
-  cut-first h =
-      let k : ℕ = index_of (eqb 32) (drop at t) in
-      let width : stop - at ≡ k = omega arith in
-      let next : at + suc k ≡ stop + 1 = omega arith in
-      c.rest ∙ rw (width, pieces-first (drop at t) (rw length-drop (omega arith)), drop-drop (suc k) at t, next)
+  pieces-some-first : (k : ℕ) → r ≡ Some k → pieces t ≡ take k t ∷ pieces (drop (suc k) t)
+  pieces-some-first k f = let here = space-found k f in rw here.0 (pieces-first t here.1)
 
-  pub cut-goes : stop < length t → in_name m (part at stop t) ≡ true → {next : ℕ} → next ≡ index_from (eqb 32) (stop + 1) t → Cut m t (stop + 1) next
-  cut-goes h e n = record { within = omega arith; found = n; rest = cut-first h ∙ rw e }
+  pieces-no-space : r ≡ None → pieces t ≡ t ∷ []
+  pieces-no-space f =
+      by (ltb (index_of (eqb 32) t) (length t))
+      (λ h. let somewhere : ◌≡◌ {A = Option ℕ} None (Some (index_of (eqb 32) t)) = sym f ∙ rw h at told in
+      absurd (cc))
+      (λ h. pieces-last t (ltb-false (index_of (eqb 32) t) (length t) h))
 
-  pub cut-stops : stop < length t → in_name m (part at stop t) ≡ false → name_text m t ≡ false
-  cut-stops h e = cut-first h ∙ rw e
+  -- so the pieces from there on are still to be tested, or the test of one is the answer
+  module _ (m : Bool) (text : List ℕ) (left : name_text m text ≡ all_of (in_name m) (pieces t)) where
+    pub text-goes : {word after : List ℕ} (k : ℕ) → r ≡ Some k → word ≡ take k t → after ≡ drop k t → in_name m word ≡ true → name_text m text ≡ all_of (in_name m) (pieces (part 1 (length after) after))
+    unfolding all_of
+    text-goes {word} {after} k f w a h =
+        let one : k + 1 ≡ suc k = omega arith in
+        let next : drop 1 after ≡ drop (suc k) t = rw (a, ← one) (drop-drop 1 k t) in
+        left ∙ rw (pieces-some-first k f, ← w, h, part-rest after 1, next)
 
-  pub cut-ends : length t ≤ stop → name_text m t ≡ in_name m (part at (length t) t)
-  cut-ends h =
-      let left : length (drop at t) ≡ length t - at = length-drop at t in
-      let last : pieces (drop at t) ≡ drop at t ∷ [] = pieces-last (drop at t) (omega arith) in
-      c.rest ∙ rw (last, part-rest t at) (all_one (in_name m) (drop at t))
+    pub text-stops : {word : List ℕ} (k : ℕ) → r ≡ Some k → word ≡ take k t → in_name m word ≡ false → name_text m text ≡ false
+    unfolding all_of
+    text-stops k f w h = left ∙ rw (pieces-some-first k f, ← w, h)
+
+    pub text-ends : r ≡ None → name_text m text ≡ in_name m t
+    text-ends f = left ∙ rw (pieces-no-space f) (all_one (in_name m) t)
 
 -- The words of a name, and a name grown by a word.
 

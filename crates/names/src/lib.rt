@@ -1,98 +1,79 @@
 // Names: one word of a name, the words that close one, and the text of a whole name.
 #![tactic(auto)]
 
-ghost use Rattle.std.specs.Prelude.{◌≡◌, eqb};
-ghost use Rattle.lists.specs.Lists.{all_of, index_from};
-ghost use Rattle.names.specs.Names.{name_byte, name_word, closing_of, in_name, name_text};
+ghost use Rattle.std.specs.Prelude.{◌≡◌, eqb, position};
+ghost use Rattle.std.specs.List.{list_all};
+ghost use Rattle.lists.specs.Choice.{found};
+ghost use Rattle.names.specs.Names.{name_byte, name_word, good_closing, closing_of, in_name, name_text};
 
 use figures::code;
-use lists::{both, either};
 use words::is_letter;
 
 fn all_name_bytes(w: &[u8]) -> bool
-    ensures { result ≡ all_of name_byte w.now }
+    ensures { result ≡ list_all name_byte w.now }
 {
-    let mut i = 0;
-    while i < w.len() {
-        let x = w[i];
-        if !either(is_letter(x), x == b'-') {
-            return false;
-        }
-        i += 1;
-    }
-    true
+    w.iter().all(|x| is_letter(*x) || *x == b'-')
 }
 
 // A word of letters and hyphens that begins and ends with a letter.
+#[tactic(auto, using(crate::proofs::NameLaws::name_bytes), unfolding(crate::specs::Names::name_word))]
 pub fn name_word(w: &[u8]) -> bool
     ensures { result ≡ name_word w.now }
 {
     let length = w.len();
-    if length == 0 {
-        return false;
-    }
-    let first = is_letter(w[0]);
-    let last = is_letter(w[length - 1]);
-    both(all_name_bytes(w), both(first, last))
+    0 < length && all_name_bytes(w) && is_letter(w[0]) && is_letter(w[length - 1])
 }
 
-// The number of the closing word `CTA`.
+// The numbers of the closing words.
+pub const CLOSED_BY_FIR: u8 = 1;
+
+pub const CLOSED_BY_FIR_UIR: u8 = 2;
+
 pub const CLOSED_BY_CTA: u8 = 3;
 
-// 1 for `FIR`, 2 for `FIR/UIR`, 3 for `CTA`, 0 for any other word.
-pub fn closing_word(w: &[u8]) -> u8
-    ensures { result ≡ closing_of w.now }
+// The number of a closing word, `FIR`, `FIR/UIR` or `CTA`.
+#[tactic(auto, using(crate::proofs::NameLaws::closing_codes))]
+pub fn closing_word(w: &[u8]) -> Option<u8>
+    ensures { result ≡ found good_closing (closing_of w.now) }
 {
-    let c = code(w);
-    if c == vocabulary::FIR {
-        return 1;
+    match code(w) {
+        vocabulary::FIR => Some(CLOSED_BY_FIR),
+        vocabulary::FIR_UIR => Some(CLOSED_BY_FIR_UIR),
+        vocabulary::CTA => Some(CLOSED_BY_CTA),
+        _ => None,
     }
-    if c == vocabulary::FIR_UIR {
-        return 2;
-    }
-    let is_cta = c == vocabulary::CTA;
-    if is_cta {
-        return CLOSED_BY_CTA;
-    }
-    0
 }
 
 // A word that a name may have: a mountain's not `PSN`, an area's no closing word.
+#[tactic(auto, using(crate::proofs::NameLaws::mountain_closes, crate::proofs::NameLaws::area_closes))]
 pub fn in_name(w: &[u8], mountain: bool) -> bool
     ensures { result ≡ in_name mountain w.now }
 {
-    let word = name_word(w);
-    if mountain {
-        return both(word, code(w) != vocabulary::PSN);
-    }
-    both(word, closing_word(w) == 0)
+    let closes = if mountain {
+        code(w) == vocabulary::PSN
+    } else {
+        closing_word(w).is_some()
+    };
+    name_word(w) && !closes
 }
 
-fn first_space(t: &[u8], start: usize) -> usize
-    ensures { result ≡ index_from (eqb 32) start t.now }
+fn first_space(t: &[u8]) -> Option<usize>
+    ensures { result ≡ position (eqb 32) t.now }
 {
-    let mut i = start;
-    while i < t.len() {
-        if b' ' == t[i] {
-            return i;
-        }
-        i += 1;
-    }
-    i
+    t.iter().position(|x| b' ' == *x)
 }
 
 // The text of a name: words that a name may have, parted by single spaces.
 pub fn name_text(t: &[u8], mountain: bool) -> bool
     ensures { result ≡ name_text mountain t.now }
 {
-    let mut at = 0;
-    let mut end = first_space(t, 0);
-    while end < t.len() {
-        if !in_name(&t[at..end], mountain) {
+    let mut rest = t;
+    while let Some(space) = first_space(rest) {
+        let (word, after) = rest.split_at(space);
+        if !in_name(word, mountain) {
             return false;
         }
-        at = end + 1;
-        end = first_space(t, at);
+        rest = &after[1..];
     }
-    in_name(&t[at..], mountain)
+    in_name(rest, mountain)
 }
