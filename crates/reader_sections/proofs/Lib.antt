@@ -1,12 +1,9 @@
 pub mod RunsAt
 pub mod OneWord
-pub mod Tells
 pub mod Leads
-pub mod Sides
-pub mod FirstWords
-pub mod Determined
-pub mod NextCode
-pub mod Storms
+pub mod Kinds
+pub mod Locating
+pub mod OutlineLaws
 pub mod NameBytes
 pub mod NameText
-pub mod OutlineLaws
+pub mod Determined

@@ -25,7 +25,7 @@ fn belongs(step: Step, used: usize, mountain: bool, limit: usize) -> bool
     ensures { BelongsSays mountain limit used step.entry result }
 {
     let w = step.word();
-    used + w.len() <= limit && in_name(w, mountain)
+    in_name(w, mountain) && used + w.len() <= limit
 }
 
 // The name of that word alone.
