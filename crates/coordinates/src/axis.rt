@@ -1,70 +1,31 @@
-// One reader and one judgement for both axes.
-ghost use Rattle.std.specs.Prelude.{◌≡◌, ◌≤◌};
-ghost use Rattle.lists.specs.Choice.{pick};
-ghost use Rattle.coordinates.specs.Coordinates.{coordinate_of, good_coordinate, no_coordinate, written, counted};
+// What tells the two axes apart.
+ghost use Rattle.std.specs.Prelude.{◌≤◌, ◌<◌};
 
-use crate::{Coordinate, NO_COORDINATE};
-use figures::{three, two};
-use lists::{both, either};
+use crate::{LATITUDE_FIGURES, LONGITUDE_FIGURES};
 
-fn is_written(c: Coordinate, width: u8, plus: u8, minus: u8) -> bool
-    requires { width ≤ 3 }
-    ensures { result ≡ written (record { width = width; greatest = 0; plus = plus; minus = minus }) c }
-{
-    let letter = either(c.letter == plus, c.letter == minus);
-    let short = both(c.digits == width, c.minutes == 0);
-    both(letter, either(short, c.digits == width + 2))
+// How many figures degrees have, the greatest degrees, and the letters of the positive and of the negative side.
+#[derive(Clone, Copy)]
+pub(crate) struct Axis {
+    pub width: u8,
+    pub greatest: u16,
+    pub plus: u8,
+    pub minus: u8,
+    // three figures count every degree of the axis; and no letter is the 0 of `NO_COORDINATE`
+    ghost narrow: { width ≤ 3 },
+    ghost few: { greatest < 1000 },
+    ghost lettered: { (0 < plus) × (0 < minus) },
 }
 
-fn is_counted(c: Coordinate, greatest: u16) -> bool
-    ensures { result ≡ counted (record { width = 0; greatest = greatest; plus = 0; minus = 0 }) c }
-{
-    let whole = either(c.degrees < greatest, c.minutes == 0);
-    both(c.degrees <= greatest, both(c.minutes <= 59, whole))
-}
+pub(crate) const LATITUDE: Axis = Axis {
+    width: LATITUDE_FIGURES,
+    greatest: 90,
+    plus: b'N',
+    minus: b'S',
+};
 
-pub(crate) fn good(c: Coordinate, width: u8, greatest: u16, plus: u8, minus: u8) -> bool
-    requires { width ≤ 3 }
-    ensures { result ≡ good_coordinate (record { width = width; greatest = greatest; plus = plus; minus = minus }) c }
-{
-    both(is_written(c, width, plus, minus), is_counted(c, greatest))
-}
-
-fn keep(c: Coordinate, good: bool) -> Coordinate
-    ensures { result ≡ pick good c no_coordinate }
-{
-    if good { c } else { NO_COORDINATE }
-}
-
-pub(crate) fn coordinate(w: &[u8], width: u8, greatest: u16, plus: u8, minus: u8) -> Coordinate
-    requires { width ≤ 3 }
-    ensures { result ≡ coordinate_of (record { width = width; greatest = greatest; plus = plus; minus = minus }) w.now }
-{
-    let past = width as usize + 1;
-    if w.len() < past {
-        return NO_COORDINATE;
-    }
-    let degrees = three(&w[1..past]);
-    let letter = w[0];
-    if w.len() == past {
-        let c = Coordinate {
-            letter,
-            digits: width,
-            degrees,
-            minutes: 0,
-        };
-        return keep(c, good(c, width, greatest, plus, minus));
-    }
-    if w.len() != past + 2 {
-        return NO_COORDINATE;
-    }
-    let minutes = two(&w[past..]);
-    let digits = width + 2;
-    let c = Coordinate {
-        letter,
-        digits,
-        degrees,
-        minutes,
-    };
-    keep(c, good(c, width, greatest, plus, minus))
-}
+pub(crate) const LONGITUDE: Axis = Axis {
+    width: LONGITUDE_FIGURES,
+    greatest: 180,
+    plus: b'E',
+    minus: b'W',
+};

@@ -2,12 +2,14 @@
 #![tactic(auto)]
 
 ghost use Rattle.std.specs.Prelude.{◌≡◌};
+ghost use Rattle.lists.specs.Choice.{found};
 ghost use Rattle.coordinates.specs.Coordinates.{north_south, east_west, coordinate_of, good_coordinate, empty_coordinate, signed_of};
 ghost use Rattle.coordinates.specs.Points.{apart, same_value, same_point, good_point, empty_point};
 
-use lists::{both, either};
-
 mod axis;
+mod reading;
+
+use axis::{LATITUDE, LONGITUDE};
 
 // Letter and digits as written: how many digits, and the degrees and minutes that they count.
 #[derive(Clone, Copy, PartialEq, Eq)]
@@ -36,59 +38,54 @@ pub const NO_POINT: Point = Point {
     longitude: NO_COORDINATE,
 };
 
-// How many figures degrees have, the greatest degrees, and the minutes once around the earth.
+// How many figures degrees have, and the minutes once around the earth.
 pub const LATITUDE_FIGURES: u8 = 2;
 
 pub const LONGITUDE_FIGURES: u8 = 3;
 
-const MOST_LATITUDE: u16 = 90;
-
-const MOST_LONGITUDE: u16 = 180;
-
 const ROUND: u32 = 21600;
 
-// The latitude that a word is, or all zero.
-pub fn latitude(w: &[u8]) -> Coordinate
-    ensures { result ≡ coordinate_of north_south w.now }
+// The latitude that a word is.
+pub fn latitude(w: &[u8]) -> Option<Coordinate>
+    ensures { result ≡ found (good_coordinate north_south) (coordinate_of north_south w.now) }
 {
-    axis::coordinate(w, LATITUDE_FIGURES, MOST_LATITUDE, b'N', b'S')
+    LATITUDE.coordinate(w)
 }
 
-// The longitude that a word is, or all zero.
-pub fn longitude(w: &[u8]) -> Coordinate
-    ensures { result ≡ coordinate_of east_west w.now }
+// The longitude that a word is.
+pub fn longitude(w: &[u8]) -> Option<Coordinate>
+    ensures { result ≡ found (good_coordinate east_west) (coordinate_of east_west w.now) }
 {
-    axis::coordinate(w, LONGITUDE_FIGURES, MOST_LONGITUDE, b'E', b'W')
+    LONGITUDE.coordinate(w)
 }
 
 pub fn good_latitude(c: Coordinate) -> bool
     ensures { result ≡ good_coordinate north_south c }
 {
-    axis::good(c, LATITUDE_FIGURES, MOST_LATITUDE, b'N', b'S')
+    LATITUDE.good(c)
 }
 
 pub fn good_longitude(c: Coordinate) -> bool
     ensures { result ≡ good_coordinate east_west c }
 {
-    axis::good(c, LONGITUDE_FIGURES, MOST_LONGITUDE, b'E', b'W')
+    LONGITUDE.good(c)
 }
 
+#[tactic(auto, unfolding(crate::specs::Coordinates::empty_coordinate))]
 pub fn empty_coordinate(c: Coordinate) -> bool
     ensures { result ≡ empty_coordinate c }
 {
-    both(
-        c.letter == 0,
-        both(c.digits == 0, both(c.degrees == 0, c.minutes == 0)),
-    )
+    c == NO_COORDINATE
 }
 
 // The signed value in minutes, north and east positive.
+#[tactic(auto, unfolding(crate::specs::Coordinates::signed_of))]
 pub fn signed(c: Coordinate) -> i32
     ensures { result ≡ signed_of c }
 {
-    let size = (c.degrees as u32 * 60 + c.minutes as u32) as i32;
-    if either(c.letter == b'S', c.letter == b'W') {
-        0 - size
+    let size = (u32::from(c.degrees) * 60 + u32::from(c.minutes)) as i32;
+    if c.letter == b'S' || c.letter == b'W' {
+        -size
     } else {
         size
     }
@@ -98,12 +95,7 @@ pub fn signed(c: Coordinate) -> i32
 fn apart_by(c: Coordinate, d: Coordinate) -> u32
     ensures { result ≡ apart (signed_of c) (signed_of d) }
 {
-    let far = signed(c) - signed(d);
-    if far < 0 {
-        (0 - far) as u32
-    } else {
-        far as u32
-    }
+    signed(c).abs_diff(signed(d))
 }
 
 // Have two latitudes the same value? N00 and S0000 have.
@@ -114,22 +106,24 @@ pub fn same_latitude(c: Coordinate, d: Coordinate) -> bool
 }
 
 // "Points are equal when their latitudes are equal and their longitudes differ by 0 or 21,600."
+#[tactic(auto, unfolding(crate::specs::Points::same_point))]
 pub fn same_point(p: Point, q: Point) -> bool
     ensures { result ≡ same_point p q }
 {
-    let north = apart_by(p.latitude, q.latitude);
     let east = apart_by(p.longitude, q.longitude);
-    both(north == 0, either(east == 0, east == ROUND))
+    same_latitude(p.latitude, q.latitude) && (east == 0 || east == ROUND)
 }
 
+#[tactic(auto, unfolding(crate::specs::Points::good_point))]
 pub fn good_point(p: Point) -> bool
     ensures { result ≡ good_point p }
 {
-    both(good_latitude(p.latitude), good_longitude(p.longitude))
+    good_latitude(p.latitude) && good_longitude(p.longitude)
 }
 
+#[tactic(auto, unfolding(crate::specs::Points::empty_point, crate::specs::Coordinates::empty_coordinate))]
 pub fn empty_point(p: Point) -> bool
     ensures { result ≡ empty_point p }
 {
-    both(empty_coordinate(p.latitude), empty_coordinate(p.longitude))
+    p == NO_POINT
 }

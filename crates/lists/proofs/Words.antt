@@ -7,7 +7,7 @@ use native.Mathlib.Omega.{arith}
 use lib.Dec.{eqb, ltb}
 use lib.ListN.{length}
 use lib.Pointwise.{pointwise}
-use Rattle.std.specs.Prelude.{position}
+use Rattle.std.specs.Prelude.{position, Some, None}
 use Rattle.std.specs.List.{position_or_len, list_all}
 use Rattle.lists.specs.Choice.{both, either, found}
 use Rattle.lists.specs.Lists.{index_of, all_of, same}
@@ -32,6 +32,13 @@ index-position f (x ∷ xs) = by (f x) (λ e. rw e) (λ e. rw (e, index-position
 
 pub position-found : {A : Type 0} (f : A → Bool) (xs : List A) → position f xs ≡ found (λ i. ltb i (length xs)) (index_of f xs)
 position-found f xs = rw (index-position f xs) (by (ltb (position_or_len f xs) (length xs)) (λ e. rw e) (λ e. rw e))
+
+-- what it is that was found, or that nothing was
+pub found-is : {A : Type 0} {v x : A} (good : A → Bool) → found good v ≡ Some x → (v ≡ x) × (good v ≡ true)
+found-is {v = v} good e = by (good v) (λ g. (let h = rw g at e in cc, g)) (λ f. let h = rw f at e in cc)
+
+pub found-out : {A : Type 0} {v : A} (good : A → Bool) → found good v ≡ None → good v ≡ false
+found-out {v = v} good e = by (good v) (λ g. let h = rw g at e in cc) (λ f. f)
 
 -- Testing all.
 

@@ -1,5 +1,0 @@
--- `good_latitude` meets its contract, which is that of `axis::good` on its axis.
-use Rattle.coordinates.proofs.good_latitude.Goals as goal
-
-pub returns : goal.returns
-returns c = c.good.ensures
