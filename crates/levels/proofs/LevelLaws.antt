@@ -8,7 +8,7 @@ use Prim.Native.Char.{code}
 use native.Mathlib.Nat.{mod-lt}
 use native.Mathlib.Omega.{arith}
 use lib.Dec.{ltb, eqb, lit<}
-use lib.ListN.{length, get_or, drop}
+use lib.ListN.{length, get_or, take, drop}
 use borrow.Author.Tests.{ltb-true, eqb-true, ne_eqb}
 use Rattle.lists.specs.Choice.{pick, both}
 use Rattle.lists.specs.Lists.{all_of, part, same}
@@ -16,18 +16,37 @@ use Rattle.lists.specs.Base.{places}
 use Rattle.lists.specs.Text.{bytes}
 use Rattle.lists.proofs.Choice.{by, clash, both_left, both_right}
 use Rattle.lists.proofs.Lists.{same-is, all_append}
-use Rattle.lists.proofs.Parts.{drop-part, drop-one, drop-end}
+use Rattle.lists.proofs.Parts.{part-rest, drop-part, drop-one, drop-end}
 use Rattle.words.specs.Bytes.{between, allowed, plain}
 use Rattle.words.specs.Words.{plain_word}
 use Rattle.words.proofs.Ranges.{between-low, between-high}
 use Rattle.figures.specs.Figures.{figures_of, in_figures}
 use Rattle.figures.specs.Reads.{Reads, if_good}
+use Rattle.figures.specs.Codes.{code_of}
+use Rattle.figures.proofs.CodeLaws.{same_code}
+use Rattle.vocabulary.specs.Codes.{code-fl, code-surface, code-ft}
+use Rattle.vocabulary.proofs.FixedWords.{fixed-fl, fixed-surface, fixed-ft}
 use Rattle.figures.proofs.FigureLaws.{figures-forth, figures-part}
 use Rattle.figures.proofs.ReadsLaws.{Back, if-good-back}
 use Rattle.figures.proofs.PlainLaws.{in_figures-plain, run-plain}
 use Rattle.levels.specs.declared.Level.{Level}
 use Rattle.levels.specs.declared.Level.TheVariants.{NoLevel, Flight, SurfaceFlight, SurfaceMetres, SurfaceFeet, Band, TopFlight, AboveFlight, TopAboveFlight}
 use Rattle.levels.specs.Levels.{flight, good_band, good_level_word, feet_figures, spell_level_word, five, surface_nine, band_nine, nine, ten_eleven, level_of, good_level, empty_level}
+
+-- The fixed words in a level, by their codes.
+
+pub flight_code : (w : List ℕ) → same w (bytes "FL") ≡ eqb (code_of w) code-fl
+flight_code w = sym (same_code w (bytes "FL") fixed-fl.is-short) ∙ ap (eqb (code_of w)) fixed-fl.has
+
+pub surface_code : (w : List ℕ) → same w (bytes "SFC/") ≡ eqb (code_of w) code-surface
+surface_code w = sym (same_code w (bytes "SFC/") fixed-surface.is-short) ∙ ap (eqb (code_of w)) fixed-surface.has
+
+pub feet_code : (w : List ℕ) → same w (bytes "FT") ≡ eqb (code_of w) code-ft
+feet_code w = sym (same_code w (bytes "FT") fixed-ft.is-short) ∙ ap (eqb (code_of w)) fixed-ft.has
+
+-- the end of a word from a place on
+pub end_part : (w : List ℕ) (k : ℕ) → take (length w - k) (drop k w) ≡ drop k w
+end_part w k = part-rest w k
 
 band-low : (low high : ℕ) → good_band low high ≡ true → flight low ≡ true
 band-low low high g = both_left (flight low) (both (flight high) (ltb low high)) g

@@ -1,12 +1,13 @@
 // Levels: the word of a level, and the judgement of any level.
 #![tactic(auto)]
 
-ghost use Rattle.std.specs.Prelude.{◌≡◌, ◌≤◌, length};
+ghost use Rattle.std.specs.Prelude.{◌≡◌, ◌≤◌, ◌<◌, length};
+ghost use Rattle.lists.specs.Choice.{found};
 ghost use Rattle.words.specs.Bytes.{between};
-ghost use Rattle.levels.specs.Levels.{good_band, feet_figures, five, surface_nine, band_nine, nine, ten_eleven, level_of, good_level, empty_level};
+ghost use Rattle.figures.specs.Figures.{figures_of};
+ghost use Rattle.levels.specs.Levels.{flight, good_band, good_level_word, feet_figures, five, surface_nine, band_nine, nine, ten_eleven, level_of, good_level, empty_level};
 
 use figures::{code, figures};
-use lists::both;
 
 #[derive(Clone, Copy, PartialEq, Eq)]
 pub enum Level {
@@ -28,82 +29,72 @@ const MOST_METRES: u32 = 9999;
 
 const MOST_FEET: u32 = 99999;
 
-fn is_between(low: u32, high: u32, n: u32) -> bool
-    ensures { result ≡ between low high n }
+fn is_flight(n: u32) -> bool
+    ensures { result ≡ flight n }
 {
-    both(low <= n, n <= high)
+    (1..=MOST_FLIGHT).contains(&n)
 }
 
-fn five_bytes(w: &[u8]) -> Level
+// What figures count, from 1 up to a greatest number.
+fn counted(w: &[u8], most: u32) -> Option<u32>
+    requires { most < 100000 }
+    ensures { result ≡ found (between 1 most) (figures_of w.now) }
+{
+    let n = figures(w)?;
+    (1..=most).contains(&n).then_some(n)
+}
+
+#[tactic(auto, using(crate::proofs::LevelLaws::flight_code), unfolding(crate::specs::Levels::good_level_word))]
+fn five_bytes(w: &[u8]) -> Option<Level>
     requires { length w.now ≡ 5 }
-    ensures { result ≡ five w.now }
+    ensures { result ≡ found good_level_word (five w.now) }
 {
     if code(&w[0..2]) != vocabulary::FL {
-        return Level::NoLevel;
+        return None;
     }
-    let n = figures(&w[2..5]);
-    if is_between(1, MOST_FLIGHT, n) {
-        Level::Flight(n)
-    } else {
-        Level::NoLevel
-    }
+    let n = counted(&w[2..5], MOST_FLIGHT)?;
+    Some(Level::Flight(n))
 }
 
-fn surface_nine(w: &[u8]) -> Level
+#[tactic(auto, using(crate::proofs::LevelLaws::flight_code), unfolding(crate::specs::Levels::good_level_word))]
+fn surface_nine(w: &[u8]) -> Option<Level>
     requires { length w.now ≡ 9 }
-    ensures { result ≡ surface_nine w.now }
+    ensures { result ≡ found good_level_word (surface_nine w.now) }
 {
     if code(&w[4..6]) == vocabulary::FL {
-        let n = figures(&w[6..9]);
-        return if is_between(1, MOST_FLIGHT, n) {
-            Level::SurfaceFlight(n)
-        } else {
-            Level::NoLevel
-        };
+        let n = counted(&w[6..9], MOST_FLIGHT)?;
+        return Some(Level::SurfaceFlight(n));
     }
-    let other_unit = w[8] != b'M';
-    if other_unit {
-        return Level::NoLevel;
+    if w[8] != b'M' {
+        return None;
     }
-    let n = figures(&w[4..8]);
-    if is_between(1, MOST_METRES, n) {
-        Level::SurfaceMetres(n)
-    } else {
-        Level::NoLevel
-    }
+    let n = counted(&w[4..8], MOST_METRES)?;
+    Some(Level::SurfaceMetres(n))
 }
 
 fn good_band(low: u32, high: u32) -> bool
     ensures { result ≡ good_band low high }
 {
-    both(
-        is_between(1, MOST_FLIGHT, low),
-        both(is_between(1, MOST_FLIGHT, high), low < high),
-    )
+    is_flight(low) && is_flight(high) && low < high
 }
 
-fn band_nine(w: &[u8]) -> Level
+#[tactic(auto, using(crate::proofs::LevelLaws::flight_code), unfolding(crate::specs::Levels::good_level_word))]
+fn band_nine(w: &[u8]) -> Option<Level>
     requires { length w.now ≡ 9 }
-    ensures { result ≡ band_nine w.now }
+    ensures { result ≡ found good_level_word (band_nine w.now) }
 {
-    if code(&w[0..2]) != vocabulary::FL {
-        return Level::NoLevel;
+    if code(&w[0..2]) != vocabulary::FL || w[5] != b'/' {
+        return None;
     }
-    if w[5] != b'/' {
-        return Level::NoLevel;
-    }
-    let low = figures(&w[2..5]);
-    let high = figures(&w[6..9]);
-    if good_band(low, high) {
-        Level::Band(low, high)
-    } else {
-        Level::NoLevel
-    }
+    let low = figures(&w[2..5])?;
+    let high = figures(&w[6..9])?;
+    good_band(low, high).then_some(Level::Band(low, high))
 }
 
-fn nine_bytes(w: &[u8]) -> Level
+#[tactic(auto, using(crate::proofs::LevelLaws::surface_code))]
+fn nine_bytes(w: &[u8]) -> Option<Level>
     requires { length w.now ≡ 9 }
-    ensures { result ≡ nine w.now }
+    ensures { result ≡ found good_level_word (nine w.now) }
 {
     if code(&w[0..4]) == vocabulary::SURFACE {
         surface_nine(w)
@@ -122,66 +113,52 @@ pub fn feet_figures(n: u32) -> u8
     }
 }
 
-fn ten_or_eleven(w: &[u8]) -> Level
+#[tactic(auto, using(crate::proofs::LevelLaws::surface_code, crate::proofs::LevelLaws::feet_code, crate::proofs::LevelLaws::end_part), unfolding(crate::specs::Levels::good_level_word))]
+fn ten_or_eleven(w: &[u8]) -> Option<Level>
     requires { (10 ≤ length w.now) × (length w.now ≤ 11) }
-    ensures { result ≡ ten_eleven w.now }
+    ensures { result ≡ found good_level_word (ten_eleven w.now) }
 {
     let past = w.len() - 2;
-    if code(&w[0..4]) != vocabulary::SURFACE {
-        return Level::NoLevel;
+    if code(&w[0..4]) != vocabulary::SURFACE || code(&w[past..]) != vocabulary::FT {
+        return None;
     }
-    if code(&w[past..]) != vocabulary::FT {
-        return Level::NoLevel;
-    }
-    let n = figures(&w[4..past]);
-    if both(
-        is_between(1, MOST_FEET, n),
-        feet_figures(n) as usize == past - 4,
-    ) {
-        Level::SurfaceFeet(n)
-    } else {
-        Level::NoLevel
-    }
+    let n = counted(&w[4..past], MOST_FEET)?;
+    (usize::from(feet_figures(n)) == past - 4).then_some(Level::SurfaceFeet(n))
 }
 
-// The level that one word is, or `NoLevel`.
-pub fn level_word(w: &[u8]) -> Level
-    ensures { result ≡ level_of w.now }
+// The level that one word is.
+#[tactic(auto, unfolding(crate::specs::Levels::level_of, crate::specs::Levels::good_level_word))]
+pub fn level_word(w: &[u8]) -> Option<Level>
+    ensures { result ≡ found good_level_word (level_of w.now) }
 {
-    let n = w.len();
-    if n == 5 {
-        return five_bytes(w);
+    match w.len() {
+        5 => five_bytes(w),
+        9 => nine_bytes(w),
+        10 | 11 => ten_or_eleven(w),
+        _ => None,
     }
-    if n == 9 {
-        return nine_bytes(w);
-    }
-    if n < 10 {
-        return Level::NoLevel;
-    }
-    if 11 < n {
-        return Level::NoLevel;
-    }
-    ten_or_eleven(w)
 }
 
+#[tactic(auto, unfolding(crate::specs::Levels::good_level, crate::specs::Levels::good_level_word))]
 pub fn good_level(l: Level) -> bool
     ensures { result ≡ good_level l }
 {
     match l {
         Level::NoLevel => false,
-        Level::Flight(n) => is_between(1, MOST_FLIGHT, n),
-        Level::SurfaceFlight(n) => is_between(1, MOST_FLIGHT, n),
-        Level::SurfaceMetres(n) => is_between(1, MOST_METRES, n),
-        Level::SurfaceFeet(n) => is_between(1, MOST_FEET, n),
+        Level::Flight(n)
+        | Level::SurfaceFlight(n)
+        | Level::TopFlight(n)
+        | Level::AboveFlight(n)
+        | Level::TopAboveFlight(n) => is_flight(n),
+        Level::SurfaceMetres(n) => (1..=MOST_METRES).contains(&n),
+        Level::SurfaceFeet(n) => (1..=MOST_FEET).contains(&n),
         Level::Band(low, high) => good_band(low, high),
-        Level::TopFlight(n) => is_between(1, MOST_FLIGHT, n),
-        Level::AboveFlight(n) => is_between(1, MOST_FLIGHT, n),
-        Level::TopAboveFlight(n) => is_between(1, MOST_FLIGHT, n),
     }
 }
 
+#[tactic(auto, unfolding(crate::specs::Levels::empty_level))]
 pub fn empty_level(l: Level) -> bool
     ensures { result ≡ empty_level l }
 {
-    if let Level::NoLevel = l { true } else { false }
+    l == Level::NoLevel
 }

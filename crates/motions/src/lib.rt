@@ -2,21 +2,30 @@
 #![tactic(auto)]
 
 ghost use Rattle.std.specs.Prelude.{◌≡◌};
-ghost use Rattle.figures.specs.Tables.{number_in};
-ghost use Rattle.motions.specs.Motions.{compass_of, intensity_of};
+ghost use Rattle.lists.specs.Choice.{found};
+ghost use Rattle.figures.specs.Tables.{number_in, in_numbers};
+ghost use Rattle.motions.specs.Motions.{good_compass, compass_of, good_intensity, intensity_of};
 ghost use Rattle.motions.specs.Speeds.{unit_words, good_speed, speed_of};
 
 use figures::{code, find, two};
-use lists::both;
 
-// 1 to 99, in 1 knots or 2 kilometres an hour.
+// 1 to 99, in knots or kilometres an hour.
 #[derive(Clone, Copy, PartialEq, Eq)]
 pub struct Speed {
     pub value: u8,
     pub unit: u8,
 }
 
-const NO_SPEED: Speed = Speed { value: 0, unit: 0 };
+// The units of a speed.
+pub const KNOTS: u8 = 1;
+
+pub const KILOMETRES: u8 = 2;
+
+// How many points the compass has.
+pub const COMPASS_POINTS: u8 = 16;
+
+// The number of no point of the compass.
+pub const NO_COMPASS: u8 = COMPASS_POINTS;
 
 // The codes of `N`, `NNE` and so on, clockwise.
 const COMPASS: [u64; 16] = [
@@ -38,66 +47,62 @@ const COMPASS: [u64; 16] = [
     vocabulary::NNW,
 ];
 
-// What `compass_word` answers where a word is no point of the compass.
-pub const NO_COMPASS: u8 = 16;
-
-// The number of a compass point, 0 for N to 15 for NNW; `NO_COMPASS` for any other word.
-pub fn compass_word(w: &[u8]) -> u8
-    ensures { result ≡ compass_of w.now }
+// The number of a compass point, 0 for N to 15 for NNW.
+pub fn compass_word(w: &[u8]) -> Option<u8>
+    ensures { result ≡ found good_compass (compass_of w.now) }
 {
-    find(&COMPASS, code(w)) as u8
+    let point = find(&COMPASS, code(w))?;
+    Some(point as u8)
 }
 
-// 1 for `INTSF`, 2 for `WKN`, 3 for `NC`, 0 for any other word.
-pub fn intensity_word(w: &[u8]) -> u8
-    ensures { result ≡ intensity_of w.now }
+// The numbers of the intensities: `INTSF`, `WKN` and `NC`.
+pub const INTENSIFYING: u8 = 1;
+
+pub const WEAKENING: u8 = 2;
+
+pub const NO_CHANGE: u8 = 3;
+
+// The number of an intensity.
+#[tactic(auto, using(crate::proofs::MotionLaws::intensity_codes))]
+pub fn intensity_word(w: &[u8]) -> Option<u8>
+    ensures { result ≡ found good_intensity (intensity_of w.now) }
 {
-    let c = code(w);
-    if c == vocabulary::INTSF {
-        return 1;
+    match code(w) {
+        vocabulary::INTSF => Some(INTENSIFYING),
+        vocabulary::WKN => Some(WEAKENING),
+        vocabulary::NC => Some(NO_CHANGE),
+        _ => None,
     }
-    if c == vocabulary::WKN {
-        return 2;
-    }
-    let is_nc = c == vocabulary::NC;
-    if is_nc {
-        return 3;
-    }
-    0
 }
 
-// 1 for `KT`, 2 for `KMH`, 0 for any other ending of the word.
-fn unit_of(w: &[u8]) -> u8
-    ensures { result ≡ number_in 1 unit_words w.now }
+// The unit that ends a speed, `KT` or `KMH`.
+#[tactic(auto, using(crate::proofs::MotionLaws::unit_codes))]
+fn unit_of(w: &[u8]) -> Option<u8>
+    ensures { result ≡ found (in_numbers 1 unit_words) (number_in 1 unit_words w.now) }
 {
-    let c = code(w);
-    if c == vocabulary::KT {
-        return 1;
+    match code(w) {
+        vocabulary::KT => Some(KNOTS),
+        vocabulary::KMH => Some(KILOMETRES),
+        _ => None,
     }
-    if c == vocabulary::KMH {
-        return 2;
-    }
-    0
 }
 
+#[tactic(auto, unfolding(crate::specs::Speeds::good_speed, crate::specs::Speeds::unit_words))]
 pub fn good_speed(s: Speed) -> bool
     ensures { result ≡ good_speed s }
 {
-    both(
-        both(1 <= s.value, s.value <= 99),
-        both(1 <= s.unit, s.unit <= 2),
-    )
+    (1..=99).contains(&s.value) && (KNOTS..=KILOMETRES).contains(&s.unit)
 }
 
-// The speed that a word `nnKT` or `nnKMH` is, or all zero.
-pub fn speed_word(w: &[u8]) -> Speed
-    ensures { result ≡ speed_of w.now }
+// The speed that a word `nnKT` or `nnKMH` is.
+#[tactic(auto, using(crate::proofs::MotionLaws::short_bad), unfolding(crate::specs::Speeds::speed_of, crate::specs::Speeds::good_speed))]
+pub fn speed_word(w: &[u8]) -> Option<Speed>
+    ensures { result ≡ found good_speed (speed_of w.now) }
 {
-    if w.len() < 2 {
-        return NO_SPEED;
-    }
-    let value = two(&w[0..2]);
-    let unit = unit_of(&w[2..]);
-    let s = Speed { value, unit };
-    if good_speed(s) { s } else { NO_SPEED }
+    let (figures, unit) = w.split_at_checked(2)?;
+    let s = Speed {
+        value: two(figures)?,
+        unit: unit_of(unit)?,
+    };
+    good_speed(s).then_some(s)
 }
