@@ -122,6 +122,12 @@ pub struct Observation {
 // The time of an observation without one is all zero, as every place is that is not used.
 pub const UNTIMED: Time = Time { hour: 0, minute: 0 };
 
+pub const NO_OBSERVATION: Observation = Observation {
+    word: 0,
+    timed: false,
+    time: UNTIMED,
+};
+
 // `N OF` a latitude, and so on: the letter before OF, and the coordinate.
 #[derive(Clone, Copy, PartialEq, Eq)]
 pub struct Side {
@@ -187,11 +193,7 @@ pub struct Report {
 pub const NO_REPORT: Report = Report {
     phenomenon: 0,
     volcano: NO_VOLCANO,
-    observation: Observation {
-        word: 0,
-        timed: false,
-        time: UNTIMED,
-    },
+    observation: NO_OBSERVATION,
     extent: NO_EXTENT,
     level: Level::NoLevel,
     ending: Ending::NoEnding,
