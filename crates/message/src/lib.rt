@@ -1,4 +1,6 @@
 // The record of one SIGMET. Where a form does not use a place, the place is zero and a choice takes its empty case.
+// Numbers stay plain numbers, with 0 for none, and a choice has its empty case, in place of an Option: a caller may hand in any record,
+// `good` (specs/Records.antt) tells a bad one, and the promises speak of these fields.
 #![tactic(auto)]
 
 ghost use Rattle.std.specs.Prelude.{◌≡◌};
