@@ -7,6 +7,7 @@ ghost use Rattle.grammar.specs.Bulletins.{refusal as refusal_of};
 use message::{NO_RECORD, Record};
 
 // The refusal number, the place and the length of what is refused there, each 0 for none; and the record, all zero where refused.
+// A struct and no Result, since this is the paper's reply: "A refusal returns an empty record, all zero."
 #[derive(Clone, Copy)]
 pub struct Reply {
     pub number: u8,

@@ -1,4 +1,6 @@
 // The record of one SIGMET. Where a form does not use a place, the place is zero and a choice takes its empty case.
+// Numbers stay plain numbers, with 0 for none, and a choice has its empty case, in place of an Option: a caller may hand in any record,
+// `good` (specs/Records.antt) tells a bad one, and the promises speak of these fields.
 #![tactic(auto)]
 
 ghost use Rattle.std.specs.Prelude.{◌≡◌};
@@ -122,6 +124,12 @@ pub struct Observation {
 // The time of an observation without one is all zero, as every place is that is not used.
 pub const UNTIMED: Time = Time { hour: 0, minute: 0 };
 
+pub const NO_OBSERVATION: Observation = Observation {
+    word: 0,
+    timed: false,
+    time: UNTIMED,
+};
+
 // `N OF` a latitude, and so on: the letter before OF, and the coordinate.
 #[derive(Clone, Copy, PartialEq, Eq)]
 pub struct Side {
@@ -187,11 +195,7 @@ pub struct Report {
 pub const NO_REPORT: Report = Report {
     phenomenon: 0,
     volcano: NO_VOLCANO,
-    observation: Observation {
-        word: 0,
-        timed: false,
-        time: UNTIMED,
-    },
+    observation: NO_OBSERVATION,
     extent: NO_EXTENT,
     level: Level::NoLevel,
     ending: Ending::NoEnding,

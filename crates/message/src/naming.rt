@@ -21,6 +21,7 @@ impl Name {
         unused.iter().all(|b| *b == 0) && name_text(text, mountain)
     }
 
+    #[tactic(auto, using(crate::proofs::Equalities::name_empty))]
     pub(crate) fn is_empty(&self) -> bool
         ensures { result ≡ empty_name self.now }
     {

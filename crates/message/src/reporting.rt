@@ -4,13 +4,13 @@ ghost use Rattle.motions.specs.Motions.{good_intensity};
 ghost use Rattle.message.specs.Reports.{good_volcano, empty_volcano, good_phenomenon, good_observation, good_ending, good_report, empty_report};
 
 use crate::{
-    ASH_CLOUD, ASH_ERUPTION, Ending, FORECAST, MOUNTAIN_BYTES, NO_REPORT, NO_VOLCANO, OBSERVED,
-    Observation, RDOACT_CLD, Report, UNTIMED, Volcano,
+    ASH_CLOUD, ASH_ERUPTION, Ending, FORECAST, MOUNTAIN_BYTES, NO_OBSERVATION, NO_VOLCANO,
+    OBSERVED, Observation, RDOACT_CLD, Report, UNTIMED, Volcano,
 };
 use coordinates::good_point;
 use groups::good_time;
 use headings::{KIND_WS, KIND_WV};
-use levels::good_level;
+use levels::{Level, good_level};
 use motions::{NO_COMPASS, good_speed};
 
 impl Volcano {
@@ -22,6 +22,7 @@ impl Volcano {
         (name.is_empty() || name.is_good(true, MOUNTAIN_BYTES)) && good_point(*position)
     }
 
+    #[tactic(auto, using(crate::proofs::Equalities::volcano_empty))]
     fn is_empty(&self) -> bool
         ensures { result ≡ empty_volcano self.now }
     {
@@ -90,9 +91,17 @@ impl Report {
             && self.has_good_ending(kind)
     }
 
+    // Part by part, for `*self == NO_REPORT` takes half as many instructions again.
+    #[tactic(auto, unfolding(crate::specs::Reports::empty_report, crate::specs::Reports::empty_observation, crate::specs::Reports::empty_ending, levels::specs::Levels::empty_level))]
     pub(crate) fn is_empty(&self) -> bool
         ensures { result ≡ empty_report self.now }
     {
-        *self == NO_REPORT
+        self.phenomenon == 0
+            && self.volcano.is_empty()
+            && self.observation == NO_OBSERVATION
+            && self.extent.is_empty()
+            && self.level == Level::NoLevel
+            && self.ending == Ending::NoEnding
+            && self.forecast.is_empty()
     }
 }
