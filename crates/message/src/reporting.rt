@@ -11,7 +11,7 @@ use coordinates::good_point;
 use groups::good_time;
 use headings::{KIND_WS, KIND_WV};
 use levels::{Level, good_level};
-use motions::{NO_COMPASS, good_speed};
+use motions::{COMPASS_POINTS, good_speed};
 
 impl Volcano {
     #[tactic(auto, unfolding(crate::specs::Reports::good_volcano))]
@@ -73,7 +73,7 @@ impl Report {
         match self.ending {
             Ending::NoEnding => false,
             Ending::Moving(point, s, n) => {
-                point < NO_COMPASS && good_speed(s) && good_intensity(n) && forecast.is_empty()
+                point < COMPASS_POINTS && good_speed(s) && good_intensity(n) && forecast.is_empty()
             }
             Ending::Stationary(n) => good_intensity(n) && forecast.is_empty(),
             Ending::Forecast(n) => kind == KIND_WS && good_intensity(n) && forecast.is_good(),

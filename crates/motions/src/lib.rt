@@ -24,9 +24,6 @@ pub const KILOMETRES: u8 = 2;
 // How many points the compass has.
 pub const COMPASS_POINTS: u8 = 16;
 
-// The number of no point of the compass.
-pub const NO_COMPASS: u8 = COMPASS_POINTS;
-
 // The codes of `N`, `NNE` and so on, clockwise.
 const COMPASS: [u64; 16] = [
     vocabulary::N,

@@ -52,3 +52,11 @@ module _ {s : State} {from : Step} {e : Refused} (h : Ends s from e) where
 
   pub replies-err : {r : Result Record Refused} → r ≡ Err e → Replies s from r
   replies-err is = record { says = rw is h }
+
+-- what a section that led to a step, or to a refusal, says
+module _ {A : Type 0} {s : State} {from : Step} {r : Result (A × Step) Refused} {next : A → State} where
+  pub led : {v : A} {p : Step} → r ≡ Ok (v, p) → Leads s from r next → Reaches s from (next v) p
+  led is l = (rw is at l).says
+
+  pub failed : {e : Refused} → r ≡ Err e → Leads s from r next → Ends s from e
+  failed is l = (rw is at l).says

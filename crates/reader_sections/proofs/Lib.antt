@@ -1,7 +1,8 @@
 pub mod RunsAt
 pub mod OneWord
 pub mod Leads
-pub mod Kinds
+pub mod WordKinds
+pub mod Storms
 pub mod Locating
 pub mod OutlineLaws
 pub mod NameBytes

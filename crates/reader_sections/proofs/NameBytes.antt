@@ -26,9 +26,9 @@ name-is : {b c : List ℕ} {n k : ℕ} → b ≡ c → n ≡ k → ◌≡◌ {A 
 name-is e f = λ i. record { bytes = e i; count = f i }
 
 -- the first word of a name, put into the bytes of the empty one
-pub first-in : {out w : List ℕ} → length w ≤ name_bytes → out ≡ take 0 no_name.bytes ++ (w ++ drop (0 + length w) no_name.bytes)
+pub first-in : {out : List ℕ} (w : List ℕ) → length w ≤ name_bytes → out ≡ take 0 no_name.bytes ++ (w ++ drop (0 + length w) no_name.bytes)
     → ◌≡◌ {A = Name} (record { bytes = out; count = length w }) (name_of w)
-first-in {w = w} h e = name-is (e ∙ rw zero-add (ap (λ (z : List ℕ). w ++ z) (drop-zeros (length w) name_bytes h))) refl
+first-in w h e = name-is (e ∙ rw zero-add (ap (λ (z : List ℕ). w ++ z) (drop-zeros (length w) name_bytes h))) refl
 
 -- one more word, put behind a text and a space
 put-behind : (x w : List ℕ) → length x + (1 + length w) ≤ name_bytes

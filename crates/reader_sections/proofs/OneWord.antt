@@ -33,10 +33,10 @@ use Rattle.reader_sections.specs.declared.step.Refused.{Refused}
 use Rattle.reader_sections.specs.declared.step.Step.{Step}
 use Rattle.reader_sections.specs.Parts.{part_number}
 use Rattle.reader_sections.specs.Standing.{WordAt}
-use Rattle.reader_sections.specs.Steps.{next_word, word_on, Before, Next, Refuses, Required, Fixed, Long, Perhaps, Ended, reply_on, Reaches, Ends}
+use Rattle.reader_sections.specs.Steps.{next_word, word_on, Before, Next, Refuses, Required, Fixed, Long, Perhaps, Ended, reply_on, Reaches, Ends, Leads, Moves}
 use Rattle.reader_sections.proofs.RunsAt.{OnlyWords, part-test, part-passes, in-text, dead-at, same_at, goes_at, done_at, undone-at, skip}
 
-standing : (p : Step) → p.place ≤ length p.text.now
+pub standing : (p : Step) → p.place ≤ length p.text.now
 standing p = omega (arith, p.stands.ordered, p.stands.within)
 
 -- how long the next word is
@@ -154,13 +154,55 @@ module _ {s : State} {part : Part} {wanted : List ℕ} {next : State} (from : St
   missed-long r = ends r.is.1 a.number (a.does ∙ rw (sym test-long ∙ r.is.0))
 
 -- Perhaps a fixed word.
-module _ {k : List ℕ} {m : ℕ} (x : FixedWord k m) {from : Step} where
+module _ {k : List ℕ} {m : ℕ} (x : FixedWord k m) (from : Step) where
   pub given : {s next : State} {to : Step} → Perhaps m from (Some to) → (same (next_word from) k ≡ true → step s (next_word from) ≡ goes next) → Reaches s from next to
   given r i = with-word x from r.is.0 r.is.1 i
 
   pub left_out : {s other : State} → Perhaps m from None → number_of s ≡ number_of other
       → (same (next_word from) k ≡ false → step s (next_word from) ≡ step other (next_word from)) → Reaches s from other from
   left_out r n i = stays n (i (code-no x from r.is))
+
+-- … which is not there
+pub without : {k : List ℕ} {m : ℕ} → FixedWord k m → (from : Step) → Perhaps m from None → same (next_word from) k ≡ false
+without x from r = code-no x from r.is
+
+-- a fixed word is no other one
+pub code-other : {k l : List ℕ} {m n : ℕ} → FixedWord k m → FixedWord l n → (from : Step) {to : Step} → Perhaps m from (Some to) → (m ≡ n → ⊥) → same (next_word from) l ≡ false
+code-other x y from r apart = code-no y from (λ e. apart (sym r.is.0 ∙ e))
+
+-- A word of a kind that may be left out: it is taken, or stays.
+module _ {A : Type 0} (read : List ℕ → A) (good : A → Bool) (from : Step) (o : OnlyWords (λ (x : List ℕ). good (read x))) {w : List ℕ} (e : w ≡ word_on from) where
+  pub taken : {v : A} {to : Step} {s next : State} → Some v ≡ found good (read w) → Next from to
+      → (good (read (next_word from)) ≡ true → step s (next_word from) ≡ goes next) → Reaches s from next to
+  taken is n i =
+      let yes : good (read (next_word from)) ≡ true = sym (part-test (standing from) from.stands o) ∙ (ap (λ (x : List ℕ). good (read x)) (sym e) ∙ some-good good is) in
+      reaches n (in-text (standing from) from.stands o yes) (i yes)
+
+  pub value-is : {v : A} → Some v ≡ found good (read w) → v ≡ read (next_word from)
+  value-is is =
+      let yes : good (read (word_on from)) ≡ true = ap (λ (x : List ℕ). good (read x)) (sym e) ∙ some-good good is in
+      some-is good is ∙ ap read (e ∙ part-passes (standing from) from.stands o yes)
+
+  pub passed-over : {s other : State} → None ≡ found good (read w) → number_of s ≡ number_of other
+      → (good (read (next_word from)) ≡ false → step s (next_word from) ≡ step other (next_word from)) → Reaches s from other from
+  passed-over is n i = stays n (i (sym (part-test (standing from) from.stands o) ∙ (ap (λ (x : List ℕ). good (read x)) (sym e) ∙ none-bad good is)))
+
+-- whatever comes of a required word
+pub required-leads : {A : Type 0} {s : State} {judged : Part} {read : List ℕ → A} {good : A → Bool} {next : A → State} (from : Step) → Accepts s judged read good next (next_word from)
+    → {w : List ℕ} {value : Option A} → w ≡ word_on from → value ≡ found good (read w) → {r : Result (A × Step) Refused} → Required judged from value r → Leads s from r next
+required-leads {A} {s} {judged} {read} {good} {next} from a {w} {value} e is {r} = go r
+  where
+    go : (r : Result (A × Step) Refused) → Required judged from value r → Leads s from r next
+    go (Ok v) q = record { says = took from a e is q }
+    go (Err x) q = record { says = missed from a e is q }
+
+pub long-moves : {s : State} {judged : Part} {wanted : List ℕ} {next : State} (from : Step) → AcceptsLong s judged wanted next (next_word from) → {r : Result Step Refused} → Long judged wanted from r
+    → Moves s from r next
+long-moves {s} {judged} {wanted} {next} from a {r} = go r
+  where
+    go : (r : Result Step Refused) → Long judged wanted from r → Moves s from r next
+    go (Ok p) q = record { says = took-long from a q }
+    go (Err x) q = record { says = missed-long from a q }
 
 -- The `=`.
 module _ {from : Step} (m : Record) where

@@ -17,7 +17,7 @@ use Rattle.reader_sections.specs.declared.step.Step.{Step}
 use Rattle.reader_sections.specs.Names.{text_of, Named}
 use Rattle.reader_sections.specs.Steps.{next_word}
 use Rattle.reader_sections.proofs.NameText.{area_closed, area-takes, name-closed}
-use Rattle.reader_sections.proofs.Kinds.{four-letters, closing-only}
+use Rattle.reader_sections.proofs.WordKinds.{four-letters, closing-only}
 use Rattle.reader_sections.specs.Steps.{Reaches}
 use Rattle.reader_sections.proofs.Leads.{leads-err, then, then-ends}
 use Rattle.reader_sections.proofs.OneWord.{Accepts, missed, took}

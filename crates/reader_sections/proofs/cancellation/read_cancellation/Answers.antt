@@ -15,7 +15,7 @@ use Rattle.grammar.specs.States.State.{at_cancel_sigmet, at_cancel_sequence, at_
 use Rattle.grammar.specs.States.{ToArea}
 use Rattle.grammar.specs.Steps.{goes_if, cancels, step}
 use Rattle.reader_sections.specs.declared.parts.Part.TheVariants.{Form}
-use Rattle.reader_sections.proofs.Kinds.{sequence-only, cancelled-only}
+use Rattle.reader_sections.proofs.WordKinds.{sequence-only, cancelled-only}
 use Rattle.reader_sections.specs.Steps.{Reaches}
 use Rattle.reader_sections.proofs.Leads.{leads-err, then, then-ends}
 use Rattle.reader_sections.proofs.OneWord.{Accepts, AcceptsFixed, missed, missed-fixed, took, took-fixed}

@@ -13,7 +13,7 @@ use Rattle.grammar.specs.States.State.{at_compass, at_speed, at_moving_intensity
 use Rattle.grammar.specs.States.{ToLevel}
 use Rattle.grammar.specs.Steps.{step}
 use Rattle.reader_sections.specs.declared.parts.Part.TheVariants as part
-use Rattle.reader_sections.proofs.Kinds.{compass-only, speed-only, intensity-only}
+use Rattle.reader_sections.proofs.WordKinds.{compass-only, speed-only, intensity-only}
 use Rattle.reader_sections.specs.Steps.{Reaches}
 use Rattle.reader_sections.proofs.Leads.{leads-err, then, then-ends}
 use Rattle.reader_sections.proofs.OneWord.{Accepts, missed, took}

@@ -16,7 +16,7 @@ use Rattle.message.specs.declared.Heading.{Heading}
 use Rattle.grammar.specs.States.State.{at_unit, at_sigmet, at_sequence, at_valid, at_period, at_office, at_indicator}
 use Rattle.grammar.specs.Steps.{step}
 use Rattle.reader_sections.specs.declared.parts.Part.TheVariants.{FirstLine}
-use Rattle.reader_sections.proofs.Kinds.{four-letters, sequence-only, period-only, office-only}
+use Rattle.reader_sections.proofs.WordKinds.{four-letters, sequence-only, period-only, office-only}
 use Rattle.reader_sections.specs.Steps.{Reaches}
 use Rattle.reader_sections.proofs.Leads.{leads-err, then, then-ends}
 use Rattle.reader_sections.proofs.OneWord.{Accepts, AcceptsFixed, missed, missed-fixed, took, took-fixed}

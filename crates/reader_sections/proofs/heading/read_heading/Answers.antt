@@ -11,7 +11,7 @@ use Rattle.headings.specs.Headings.{designator_of, good_designator}
 use Rattle.grammar.specs.States.State.{at_designator, at_centre, at_sent, at_correction}
 use Rattle.grammar.specs.Steps.{step}
 use Rattle.reader_sections.specs.declared.parts.Part.TheVariants.{Heading}
-use Rattle.reader_sections.proofs.Kinds.{four-letters, designator-only, group-only}
+use Rattle.reader_sections.proofs.WordKinds.{four-letters, designator-only, group-only}
 use Rattle.reader_sections.specs.Steps.{Reaches}
 use Rattle.reader_sections.proofs.Leads.{leads-err, then, then-ends}
 use Rattle.reader_sections.proofs.OneWord.{Accepts, missed, took}

@@ -3,8 +3,8 @@ use Prim.Native.Nat.{◌-◌}
 use Rattle.reader_sections.proofs.NameText.{NamedOn}
 use Rattle.reader_sections.proofs.name.read_name.Given as goal
 
-abbrev pub invariant-loop-name : goal.invariant-loop-name
-invariant-loop-name l = NamedOn l.mountain l.limit l.initial.step l.initial.name l.step l.name
+abbrev pub invariant-loop-step : goal.invariant-loop-step
+invariant-loop-step l = NamedOn l.mountain l.limit l.initial.step l.initial.name l.step l.name
 
-abbrev pub decreases-loop-name : goal.decreases-loop-name
-decreases-loop-name l = l.limit - l.name.count
+abbrev pub decreases-loop-step : goal.decreases-loop-step
+decreases-loop-step l = l.limit - l.name.count

@@ -14,7 +14,7 @@ use Rattle.grammar.specs.States.{ToArea}
 use Rattle.grammar.specs.Steps.{step}
 use Rattle.reader_sections.specs.declared.parts.Part.TheVariants.{Form}
 use Rattle.reader_sections.specs.Phenomena.{erupting}
-use Rattle.reader_sections.proofs.Kinds.{latitude-only, longitude-only}
+use Rattle.reader_sections.proofs.WordKinds.{latitude-only, longitude-only}
 use Rattle.reader_sections.specs.Steps.{Reaches}
 use Rattle.reader_sections.proofs.Leads.{leads-err, then, then-ends}
 use Rattle.reader_sections.proofs.OneWord.{Accepts, AcceptsFixed, missed, missed-fixed, took, took-fixed}

@@ -54,7 +54,7 @@ letters-test w = ⊎_elim none some ((letters-reads 4 (lit< tt) (lit< tt)).back 
 
 pub four-letters : {s : State} {judged : Part} {next : ℕ → State} {w : List ℕ} → step s w ≡ goes_if (good_letters 4 (letters_of 4 w)) (next (letters_of 4 w))
     → number_of s ≡ part_number judged → Accepts s judged (letters_of 4) (ltb 0) next w
-four-letters {w = w} {next = next} k n = record {
+four-letters {next = next} {w = w} k n = record {
   does = k ∙ ap (λ (b : Bool). goes_if b (next (letters_of 4 w))) (letters-test w);
   number = n;
   only = record { empty = sym (letters-test []) ∙ letters-only.empty; sign = sym (letters-test equals_sign) ∙ letters-only.sign };
