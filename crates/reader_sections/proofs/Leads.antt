@@ -1,12 +1,18 @@
 -- One section after another.
-use mathlib.Core.Path.{◌≡◌, refl, sym, ◌∙◌}
+use mathlib.Core.List.{List}
+use mathlib.Core.Path.{◌≡◌, refl, ap, sym, ◌∙◌}
+use Prim.Native.Nat.{ℕ}
 use Rattle.std.specs.Prelude.{Result, Ok, Err}
 use Rattle.message.specs.declared.Record.{Record}
 use Rattle.grammar.specs.Bulletins.{acceptance}
+use Rattle.grammar.specs.Reads.{reply_of}
+use Rattle.grammar.specs.Runs.{run_at}
 use Rattle.grammar.specs.States.{State}
 use Rattle.reader_sections.specs.declared.step.Refused.{Refused}
 use Rattle.reader_sections.specs.declared.step.Step.{Step}
-use Rattle.reader_sections.specs.Steps.{reply_on, Reaches, Ends, Leads, Moves, Replies}
+use Rattle.reader_sections.specs.Replies.{Tells}
+use Rattle.reader_sections.specs.Steps.{Before, reply_on, Reaches, Ends, Leads, Moves, Replies}
+use Rattle.reader_sections.proofs.RunsAt.{skip}
 
 pub here : {s : State} {p : Step} → Reaches s p s p
 here = record { says = refl }
@@ -60,3 +66,14 @@ module _ {A : Type 0} {s : State} {from : Step} {r : Result (A × Step) Refused}
 
   pub failed : {e : Refused} → r ≡ Err e → Leads s from r next → Ends s from e
   failed is l = (rw is at l).says
+
+-- the reply to a text is that from the step before its first word on
+pub from-start : {s : State} {t : List ℕ} {start : Step} {r : Result Record Refused} → Before t 0 start → Replies s start r → Tells (reply_of t (run_at s t 0)) r
+from-start {s} {t} {start} {r} b = go r
+  where
+    begins : reply_of t (run_at s t 0) ≡ reply_on s start
+    begins = ap (reply_of t) (skip s t 0 ∙ ap (run_at s t) (sym b.placed)) ∙ ap (λ (u : List ℕ). reply_of u (run_at s u start.place)) (sym b.text)
+
+    go : (r : Result Record Refused) → Replies s start r → Tells (reply_of t (run_at s t 0)) r
+    go (Ok m) h = record { is = begins ∙ h.says }
+    go (Err e) h = record { is = begins ∙ h.says.says }

@@ -5,16 +5,13 @@ use mathlib.Core.List.{List, [], ◌∷◌}
 use mathlib.Core.Logic.{◌⊎◌}
 use mathlib.Core.Logic.◌⊎◌.{inl, inr}
 use mathlib.Core.Path.{◌≡◌, refl, ap, sym, ◌∙◌}
-use Prim.Native.Nat.{ℕ, ◌+◌, ◌%◌, ◌<◌}
-use native.Mathlib.Omega.{arith}
-use lib.Dec.{eqb}
+use Prim.Native.Nat.{ℕ, ◌%◌}
 use lib.ListN.{get_or}
 use borrow.Author.Tests.{eq-eqb, ne_eqb}
 use Rattle.std.specs.Prelude.{Option, None, Some, Ok, Err}
-use Rattle.lists.specs.Choice.{either}
 use Rattle.lists.specs.Base.{worth_after}
 use Rattle.lists.specs.Lists.{all_of, same}
-use Rattle.lists.proofs.Choice.{by, either_left, either-right, either-false}
+use Rattle.lists.proofs.Choice.{either_left, either-right, either-false}
 use Rattle.lists.proofs.Lists.{same-is}
 use Rattle.figures.specs.Codes.{behind_one, code_of, FixedWord}
 use Rattle.vocabulary.specs.Codes.{code-cta, code-fir}
@@ -29,14 +26,14 @@ use Rattle.grammar.specs.Placing.{on_if, there_if, side_word, place_step}
 use Rattle.grammar.specs.States.Move.{goes, dead}
 use Rattle.grammar.specs.States.Site.{in_report, in_forecast}
 use Rattle.grammar.specs.States.State.{at_place}
-use Rattle.grammar.specs.States.{Site, Placing, State}
+use Rattle.grammar.specs.States.{Site, Placing}
 use Rattle.grammar.specs.Steps.{goes_if, closing_at, after, step_after, settled, step}
 use Rattle.reader_sections.specs.declared.parts.Part.{Part}
 use Rattle.reader_sections.specs.declared.step.Refused.{Refused}
 use Rattle.reader_sections.specs.declared.step.Step.{Step}
 use Rattle.reader_sections.specs.Locations.{SideSays}
 use Rattle.reader_sections.specs.Parts.{part_number}
-use Rattle.reader_sections.specs.Steps.{next_word, word_on, Next, Refuses, Required, Reaches, Ends}
+use Rattle.reader_sections.specs.Steps.{next_word, word_on, Next, Required, Reaches, Ends}
 use Rattle.reader_sections.proofs.OneWord.{Accepts, AcceptsFixed, code-yes, code-no, with-word, ends}
 use Rattle.reader_sections.proofs.RunsAt.{OnlyWords}
 
@@ -126,22 +123,22 @@ module _ {a : Axis} {plus minus : ℕ} (l : Letters a plus minus) (from : Step) 
       where
         moved : (side_word a (next_word from) ≡ true) → letter ≡ get_or (next_word from) 0 0 → step (at_place site q) (next_word from) ≡ goes (at_place site (next letter))
         moved y i = on_step site q (next_word from) (j y ∙ ap (λ (x : ℕ). on (next x)) (sym i))
+
         go : (code_of (word_on from) ≡ plus) ⊎ (code_of (word_on from) ≡ minus) → Reaches (at_place site q) from (at_place site (next letter)) to
         go (inl e) = let h = is-letter plus a.plus l.plus-word l.plus-letter e in with-word l.plus-word from e n (λ y. moved (either_left _ y) h.1)
         go (inr e) = let h = is-letter minus a.minus l.minus-word l.minus-letter e in with-word l.minus-word from e n (λ y. moved (either-right _ y) h.1)
 
 -- … as a required word
-module _ {a : Axis} {plus minus : ℕ} (l : Letters a plus minus) (from : Step) {code : ℕ} {value : Option ℕ} (e : code ≡ code_of (word_on from)) (s : SideSays code plus minus value)
-    {judged : Part} where
+module _ {a : Axis} {plus minus : ℕ} (l : Letters a plus minus) (from : Step) {code : ℕ} {value : Option ℕ} (e : code ≡ code_of (word_on from)) (s : SideSays code plus minus value) where
   required-says : {r : Option ℕ} → value ≡ r → SideSays (code_of (word_on from)) plus minus r
   required-says is = rw (← e, ← is) s
 
-  pub required-side : {letter : ℕ} {to : Step} → Required judged from value (Ok (letter, to)) → (site : Site) (q : Placing) (next : ℕ → Placing)
+  pub required-side : {judged : Part} {letter : ℕ} {to : Step} → Required judged from value (Ok (letter, to)) → (site : Site) (q : Placing) (next : ℕ → Placing)
       → (side_word a (next_word from) ≡ true → place_step (closing_at site) q (next_word from) ≡ on (next (get_or (next_word from) 0 0)))
       → Reaches (at_place site q) from (at_place site (next letter)) to
   required-side r site q next j = side-on l from (required-says r.is.0) r.is.1 site q next j
 
-  pub no-required-side : {x : Refused} → Required judged from value (Err x) → (site : Site) (q : Placing) → place_number site q ≡ part_number judged
+  pub no-required-side : {judged : Part} {x : Refused} → Required judged from value (Err x) → (site : Site) (q : Placing) → place_number site q ≡ part_number judged
       → (side_word a (next_word from) ≡ false → place_step (closing_at site) q (next_word from) ≡ nowhere) → Ends (at_place site q) from x
   no-required-side r site q n j = ends r.is.1 n (nowhere-step site q (next_word from) (j (no-side l from (required-says r.is.0))))
 

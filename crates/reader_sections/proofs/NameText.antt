@@ -6,7 +6,7 @@ use Prim.Native.Nat.{ℕ, ◌+◌, ◌-◌, ◌≤◌, ◌<◌}
 use native.Mathlib.Nat.{zero-add}
 use native.Mathlib.Omega.{arith}
 use lib.Dec.{leb}
-use lib.ListN.{length, take, length-append}
+use lib.ListN.{length, length-append}
 use lib.Seq.{take-append_seam}
 use borrow.Author.Tests.{leb-true}
 use Rattle.std.specs.Prelude.{Ok, Err}
@@ -28,8 +28,7 @@ use Rattle.reader_sections.specs.declared.parts.Part.{Part}
 use Rattle.reader_sections.specs.declared.step.Refused.{Refused}
 use Rattle.reader_sections.specs.declared.step.Step.{Step}
 use Rattle.reader_sections.specs.Names.{BelongsSays, GrownSays, TakesName, text_of, Named, NameSays}
-use Rattle.reader_sections.specs.Parts.{part_number}
-use Rattle.reader_sections.specs.Steps.{next_word, word_on, Next, Refuses, Reaches, Leads}
+use Rattle.reader_sections.specs.Steps.{next_word, word_on, Next, Refuses, Reaches}
 use Rattle.reader_sections.proofs.Leads.{here, then}
 use Rattle.reader_sections.proofs.OneWord.{standing, reaches, ends}
 use Rattle.reader_sections.proofs.RunsAt.{OnlyWords, part-test, part-passes, in-text}

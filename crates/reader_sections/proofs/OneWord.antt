@@ -8,12 +8,12 @@ use lib.Dec.{eqb}
 use lib.ListN.{length}
 use borrow.Author.Tests.{eq-eqb, ne_eqb}
 use Rattle.std.specs.Prelude.{Option, None, Some, Result, Ok, Err}
-use Rattle.lists.specs.Choice.{pick, found}
-use Rattle.lists.specs.Lists.{part, same}
-use Rattle.lists.proofs.Choice.{by, clash, both-false-right}
+use Rattle.lists.specs.Choice.{found}
+use Rattle.lists.specs.Lists.{same}
+use Rattle.lists.proofs.Choice.{by, both-false-right}
 use Rattle.lists.proofs.Found.{some-good, some-is, none-bad}
 use Rattle.words.specs.declared.Span.{Span}
-use Rattle.words.specs.Words.{equals_sign, span_of, word_from, length_at}
+use Rattle.words.specs.Words.{equals_sign, span_of, length_at}
 use Rattle.words.proofs.NextWord.{text-or-equals, span-moves, length-equals, length-word}
 use Rattle.figures.specs.Codes.{code_of, FixedWord}
 use Rattle.figures.proofs.CodeLaws.{same_code}
@@ -21,19 +21,17 @@ use Rattle.message.specs.declared.Record.{Record}
 use Rattle.grammar.specs.Bulletins.{acceptance, refusal}
 use Rattle.grammar.specs.Numbers.{number_of}
 use Rattle.grammar.specs.Reads.{reply_of}
-use Rattle.grammar.specs.Runs.Ran.{accepted, refused}
+use Rattle.grammar.specs.Runs.Ran.{refused}
 use Rattle.grammar.specs.Runs.{run_at}
 use Rattle.grammar.specs.States.Move.{goes, dead}
 use Rattle.grammar.specs.States.State.{at_end}
 use Rattle.grammar.specs.States.{State}
 use Rattle.grammar.specs.Steps.{goes_if, step}
 use Rattle.reader_sections.specs.declared.parts.Part.{Part}
-use Rattle.reader_sections.specs.declared.parts.Part.TheVariants.{End}
 use Rattle.reader_sections.specs.declared.step.Refused.{Refused}
 use Rattle.reader_sections.specs.declared.step.Step.{Step}
 use Rattle.reader_sections.specs.Parts.{part_number}
-use Rattle.reader_sections.specs.Standing.{WordAt}
-use Rattle.reader_sections.specs.Steps.{next_word, word_on, Before, Next, Refuses, Required, Fixed, Long, Perhaps, Ended, reply_on, Reaches, Ends, Leads, Moves}
+use Rattle.reader_sections.specs.Steps.{next_word, word_on, Next, Refuses, Required, Fixed, Long, Perhaps, Ended, reply_on, Reaches, Ends, Leads, Moves}
 use Rattle.reader_sections.proofs.RunsAt.{OnlyWords, part-test, part-passes, in-text, dead-at, same_at, goes_at, done_at, undone-at, skip}
 
 pub standing : (p : Step) → p.place ≤ length p.text.now
@@ -211,8 +209,8 @@ module _ {from : Step} (m : Record) where
   end-yes r =
       let t : List ℕ = from.text.now in
       ap (reply_of t) (text-or-equals t from.place
-          (λ k. absurd (omega (arith, span-moves t from.place k, from.stands.starts, from.stands.ends, r.is)))
-          (λ k. done_at (at_end m) m t from.place (standing from) k refl))
+      (λ k. absurd (omega (arith, span-moves t from.place k, from.stands.starts, from.stands.ends, r.is)))
+      (λ k. done_at (at_end m) m t from.place (standing from) k refl))
 
   pub end-no : {e : Refused} → Ended from (Err e) → Ends (at_end m) from e
   unfolding step

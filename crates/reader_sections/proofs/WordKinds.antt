@@ -1,5 +1,5 @@
 -- Kinds of word: neither the empty word nor the `=` is one. And four letters, which are read as a number that is not 0.
-use mathlib.Core.Bool.{Bool, true, false}
+use mathlib.Core.Bool.{Bool, true}
 use mathlib.Core.List.{List, []}
 use mathlib.Core.Logic.{⊎_elim}
 use mathlib.Core.Path.{◌≡◌, refl, ap, sym, ◌∙◌}
@@ -49,6 +49,7 @@ letters-test w = ⊎_elim none some ((letters-reads 4 (lit< tt) (lit< tt)).back 
   where
     none : letters_of 4 w ≡ 0 → good_letters 4 (letters_of 4 w) ≡ ltb 0 (letters_of 4 w)
     none e = rw e (letters-reads 4 (lit< tt) (lit< tt)).refuses
+
     some : (good_letters 4 (letters_of 4 w) ≡ true) × (in_letters 4 (letters_of 4 w) ≡ w) → good_letters 4 (letters_of 4 w) ≡ ltb 0 (letters_of 4 w)
     some p = let n : letters_of 4 w ≡ 0 → ⊥ = letters-some _ p.0 in p.0 ∙ sym (lt-ltb 0 (letters_of 4 w) (omega arith))
 
@@ -118,7 +119,6 @@ cancelled-only l s = record { empty = both-false-left _ period-only.empty; sign 
 
 pub forecast-only : (end : Time) → OnlyWords (λ (w : List ℕ). forecast_time end (time_of w))
 forecast-only end = record { empty = both-false-left _ time-only.empty; sign = both-false-left _ time-only.sign }
-
 
 pub level-only : OnlyWords (λ (w : List ℕ). good_level_word (level_of w))
 unfolding level_of good_level_word

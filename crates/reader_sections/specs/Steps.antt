@@ -1,6 +1,6 @@
 -- One word at a step, and what a section of the reader leads to: equations of the replies to the text, from a step on.
 -- Internal contract.
-use Rattle.std.specs.Prelude.{Bool, true, false, Option, None, Some, Result, Ok, Err, List, ◌≡◌, ℕ}
+use Rattle.std.specs.Prelude.{true, false, Option, None, Some, Result, Ok, Err, List, ◌≡◌, ℕ}
 use Rattle.lists.specs.Lists.{part, same}
 use Rattle.words.specs.Words.{span_of, word_from, length_at}
 use Rattle.figures.specs.Codes.{code_of}

@@ -6,23 +6,31 @@ ghost use Rattle.message.specs.Reports.{no_report};
 ghost use Rattle.grammar.specs.Records.{formed};
 ghost use Rattle.grammar.specs.States.{ToArea};
 ghost use Rattle.grammar.specs.States.State.{at_cancel_sigmet, at_end};
-ghost use Rattle.grammar.specs.Steps.{cancels};
+ghost use Rattle.grammar.specs.Steps.{cancels as cancels_of};
 ghost use Rattle.reader_sections.specs.Steps.{Leads};
 
 use crate::parts::Part;
 use crate::step::{Refused, Step};
-use groups::{Period, period_word};
+use groups::{Period, good_period, period_word, same_group};
 use headings::{Sequence, sequence_word};
 use message::{FirstLine, Form, names_itself};
 
-// The period of a message that the bulletin may cancel: the second group equals the second group of VALID, and sequence and both groups are not all
-// those of the message itself.
+// The second group equals the second group of VALID; sequence and both groups are not all those of the message itself.
+#[tactic(auto, unfolding(grammar::specs::Steps::cancels))]
+fn cancels(line: FirstLine, sequence: Sequence, period: Period) -> bool
+    ensures { result ≡ cancels_of line sequence period }
+{
+    let itself = names_itself(line, sequence, period.from);
+    good_period(period) && (same_group(period.to, line.valid.to) && !itself)
+}
+
+// The period of a message that the bulletin may cancel.
 fn cancelled_word(line: FirstLine, sequence: Sequence, w: &[u8]) -> Option<Period>
-    ensures { result ≡ found (cancels line sequence) (period_of w.now) }
+    ensures { result ≡ found (cancels_of line sequence) (period_of w.now) }
 {
     let period = period_word(w)?;
-    let cancels = period.to == line.valid.to && !names_itself(line, sequence, period.from);
-    if cancels { Some(period) } else { None }
+    let named = cancels(line, sequence, period);
+    if named { Some(period) } else { None }
 }
 
 // What follows CNL.

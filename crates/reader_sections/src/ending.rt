@@ -1,8 +1,10 @@
 // Ending: MOV, a compass point and a speed, or STNR, then the intensity; or, in WS only, the intensity and a forecast. Then the `=`.
-ghost use Rattle.std.specs.Prelude.{◌≡◌};
-ghost use Rattle.lists.specs.Choice.{found};
+ghost use Rattle.std.specs.Prelude.{◌≡◌, not, eqb};
+ghost use Rattle.lists.specs.Choice.{both, found};
 ghost use Rattle.figures.specs.Codes.{code_of};
+ghost use Rattle.vocabulary.specs.Codes.{code-mov, code-stnr};
 ghost use Rattle.groups.specs.Groups.{time_of};
+ghost use Rattle.message.specs.Limits.{ws};
 ghost use Rattle.message.specs.Locations.{no_extent};
 ghost use Rattle.grammar.specs.Records.{report_of};
 ghost use Rattle.grammar.specs.States.{ToLevel};
@@ -107,13 +109,16 @@ fn read_forecast(step: Step, known: UpToLevel) -> Result<Record, Refused>
 }
 
 // A word that is neither MOV nor STNR is judged, in a WS, as the intensity before a forecast.
+fn foresees(kind: u8, code: u64) -> bool
+    ensures { result ≡ both (eqb kind ws) (both (not (eqb code code-mov)) (not (eqb code code-stnr))) }
+{
+    kind == KIND_WS && (code != vocabulary::MOV && code != vocabulary::STNR)
+}
+
 pub(crate) fn read_ending(step: Step, known: UpToLevel) -> Result<Record, Refused>
     ensures { Replies (at_ending (level_in known)) step.entry result }
 {
-    let code = step.code();
-    let moves = code == vocabulary::MOV || code == vocabulary::STNR;
-    let weather = known.opening.heading.designator.kind == KIND_WS;
-    if weather && !moves {
+    if foresees(known.opening.heading.designator.kind, step.code()) {
         return read_forecast(step, known);
     }
     let (ending, step) = read_movement(step)?;

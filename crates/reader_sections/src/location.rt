@@ -38,7 +38,12 @@ fn bounded(latitude: Side, longitude: Side) -> Extent
 }
 
 // OF and a longitude, after `E` or `W`; a latitude bound may stand before it.
-fn read_longitude_bound(step: Step, north: Side, of: u8, part: Part) -> Result<(Extent, Step), Refused>
+fn read_longitude_bound(
+    step: Step,
+    north: Side,
+    of: u8,
+    part: Part,
+) -> Result<(Extent, Step), Refused>
     ensures { LocatedSays (at_longitude_of north of) part step.entry result }
 {
     let step = step.fixed(part, vocabulary::OF)?;

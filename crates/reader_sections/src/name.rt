@@ -54,7 +54,12 @@ fn grown_name(name: Name, w: &[u8]) -> Name
 }
 
 // A name of as many words as belong to it. The step is then before the word that does not.
-pub(crate) fn read_name(step: Step, mountain: bool, limit: usize, part: Part) -> Result<(Name, Step), Refused>
+pub(crate) fn read_name(
+    step: Step,
+    mountain: bool,
+    limit: usize,
+    part: Part,
+) -> Result<(Name, Step), Refused>
     requires { limit ≤ name_bytes }
     ensures { NameSays mountain limit part step.entry result }
 {

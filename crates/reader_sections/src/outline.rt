@@ -38,7 +38,11 @@ fn latitude_word(first: Point, count: usize, w: &[u8]) -> Option<Coordinate>
     ensures { LatitudeSays first count w.now result }
 {
     let c = latitude(w)?;
-    if may_follow(first, count, c) { Some(c) } else { None }
+    if may_follow(first, count, c) {
+        Some(c)
+    } else {
+        None
+    }
 }
 
 // The point of that latitude and of the longitude that the word is. It may close the outline from point 4 on, and has to where there is no room
@@ -54,10 +58,18 @@ fn corner_word(first: Point, count: usize, north: Coordinate, w: &[u8]) -> Optio
     };
     if closes(first, count, point) {
         let enough = LEAST_POINTS <= count + 1;
-        return if enough { Some(Corner::Closing(point)) } else { None };
+        return if enough {
+            Some(Corner::Closing(point))
+        } else {
+            None
+        };
     }
     let room = count + 1 < MOST_POINTS;
-    if room { Some(Corner::Further(point)) } else { None }
+    if room {
+        Some(Corner::Further(point))
+    } else {
+        None
+    }
 }
 
 // One more point, and the `-` after it where it does not close the outline.

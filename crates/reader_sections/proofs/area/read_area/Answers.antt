@@ -3,8 +3,9 @@ use borrow.Author.Rules.{rules}
 use mathlib.Core.List.{List}
 use mathlib.Core.Path.{refl}
 use Prim.Native.Nat.{ℕ}
+use mathlib.Core.Bool.{false}
 use lib.Dec.{ltb}
-use Rattle.figures.specs.Letters.{letters_of, good_letters}
+use Rattle.figures.specs.Letters.{letters_of}
 use Rattle.names.specs.Names.{closing_of, good_closing}
 use Rattle.message.specs.declared.FirstLine.{FirstLine}
 use Rattle.message.specs.declared.Heading.{Heading}

@@ -1,6 +1,6 @@
 -- `read_movement` meets its contract: MOV, or a word that is judged as STNR.
 use mathlib.Core.List.{List}
-use mathlib.Core.Path.{◌≡◌, refl, sym, ◌∙◌}
+use mathlib.Core.Path.{refl}
 use Prim.Native.Nat.{ℕ}
 use borrow.Author.Rules.{rules}
 use borrow.Author.Tests.{ne_eqb}
@@ -16,7 +16,7 @@ use Rattle.message.specs.declared.Ending.TheVariants.{Stationary}
 use Rattle.message.specs.Limits.{ws}
 use Rattle.message.specs.Locations.{no_extent}
 use Rattle.grammar.specs.Records.{area_of, report_of}
-use Rattle.grammar.specs.States.State.{at_ending, at_compass, at_stationary, at_end}
+use Rattle.grammar.specs.States.State.{at_ending, at_stationary, at_end}
 use Rattle.grammar.specs.States.{ToLevel}
 use Rattle.grammar.specs.Steps.{kind_of, step_ending, step}
 use Rattle.reader_sections.specs.declared.parts.Part.TheVariants as part

@@ -4,7 +4,7 @@ use mathlib.Core.List.{List}
 use mathlib.Core.Path.{refl}
 use Prim.Native.Nat.{ℕ}
 use lib.Dec.{ltb}
-use Rattle.figures.specs.Letters.{letters_of, good_letters}
+use Rattle.figures.specs.Letters.{letters_of}
 use Rattle.groups.specs.Groups.{group_of, good_group}
 use Rattle.headings.specs.declared.Designator.{Designator}
 use Rattle.headings.specs.Headings.{designator_of, good_designator}
@@ -49,4 +49,4 @@ pub returns-in_err-sent : goal.returns-in_err-sent
 returns-in_err-sent c = leads-err (then-ends (past-centre (goal.at.returns-in_err-sent c).In_ok-centre) (missed _ (sent _ _ _) c.word-3.ensures c.group_word.ensures c.in_err-sent.ensures)) (search rules)
 
 pub returns : goal.returns
-returns c = record { says = then (past-sent (goal.at.returns c).In_ok-sent) (c.read_correction.ensures _ _ _) }
+returns c = record { says = then (past-sent (goal.at.returns c).In_ok-sent) (c.read_correction-correction.ensures _ _ _) }

@@ -31,4 +31,4 @@ returns-then-code-eq-ABV c =
     λ q. then-leads (with-word fixed-abv _ (search rules) c.next-then-code-eq-ABV.ensures (λ y. rw (code-no fixed-top c.args.step (search rules), y) refl)) (c.read_above.ensures q)
 
 pub returns : goal.returns
-returns c = λ q. required-leads _ (level q _ (search rules) (search rules)) c.word.ensures c.level_word.ensures c.required.ensures
+returns c = λ q. required-leads c.args.step (level q c.args.step (search rules) (search rules)) c.word.ensures c.level_word.ensures c.required.ensures

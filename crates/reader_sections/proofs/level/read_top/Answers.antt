@@ -41,7 +41,7 @@ pub returns-in-Some : goal.returns-in-Some
 returns-in-Some c = λ q. record { says = then (past-abv (goal.at.returns-in-Some c).In-Some q) (took _ (above q _) c.word.ensures c.flight_word.ensures c.in_ok-n.ensures) }
 
 pub returns-in_err-n-2 : goal.returns-in_err-n-2
-returns-in_err-n-2 c = λ q. leads-err (missed _ (plain q _ c.in_default.ensures) c.word.ensures c.flight_word.ensures c.in_err-n.ensures) (search rules)
+returns-in_err-n-2 c = λ q. leads-err (missed _ (plain q _ c.in_default.ensures) c.word-2.ensures c.flight_word-2.ensures c.in_err-n-2.ensures) (search rules)
 
 pub returns : goal.returns
-returns c = λ q. record { says = took _ (plain q _ c.in_default.ensures) c.word.ensures c.flight_word.ensures c.in_ok-n.ensures }
+returns c = λ q. record { says = took _ (plain q _ c.in_default.ensures) c.word-2.ensures c.flight_word-2.ensures c.in_ok-n-2.ensures }

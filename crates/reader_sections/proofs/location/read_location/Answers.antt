@@ -1,6 +1,6 @@
 -- `read_location` meets its contract: its first word tells a bound, the entire area or an outline.
 use mathlib.Core.Bool.{false}
-use mathlib.Core.List.{List, []}
+use mathlib.Core.List.{[]}
 use mathlib.Core.Path.{◌≡◌, refl}
 use borrow.Author.Rules.{rules}
 use Rattle.vocabulary.specs.Codes.{code-wi}
@@ -9,7 +9,7 @@ use Rattle.coordinates.specs.Coordinates.{north_south, east_west}
 use Rattle.message.specs.Locations.{no_side}
 use Rattle.grammar.specs.Numbers.{location_part}
 use Rattle.grammar.specs.Placing.{side_word, locating, place_step}
-use Rattle.grammar.specs.States.Placing.{at_location, at_latitude_of, at_longitude_of, at_entire, at_latitude}
+use Rattle.grammar.specs.States.Placing.{at_location, at_latitude_of, at_longitude_of, at_latitude}
 use Rattle.grammar.specs.States.State.{at_place}
 use Rattle.grammar.specs.States.{Site}
 use Rattle.reader_sections.specs.Parts.{part_number}
@@ -36,6 +36,25 @@ returns-in-Some c = record {
   says = λ site q n. then-leads
       (side-on north-letters c.args.step (rw (← c.code-code.ensures) c.in-Some.ensures) c.next.ensures site at_location at_latitude_of (λ y. rw y refl))
       (c.read_latitude_bound.ensures.says site n);
+}
+
+pub returns-in-Some-side_of : goal.returns-in-Some-side_of
+unfolding place_step locating
+returns-in-Some-side_of c = record {
+  says = λ site q n. then-leads
+      (side-on east-letters c.args.step (rw (← c.code-code.ensures) c.in-Some-side_of.ensures) c.next-in-Some-side_of.ensures site at_location (at_longitude_of no_side)
+      (λ y. rw (no-side north-letters c.args.step (rw (← c.code-code.ensures) c.in_default.ensures), y) refl))
+      (c.read_longitude_bound.ensures.says site n);
+}
+
+pub returns-then-code-eq-ENTIRE : goal.returns-then-code-eq-ENTIRE
+unfolding place_step locating
+returns-then-code-eq-ENTIRE c = record {
+  says = λ site q n. then-leads
+      (with-word fixed-entire c.args.step (search rules) c.next-then-code-eq-ENTIRE.ensures
+      (λ y. on_step site at_location (next_word c.args.step)
+      (rw (no-side north-letters c.args.step (rw (← c.code-code.ensures) c.in_default.ensures), no-side east-letters c.args.step (rw (← c.code-code.ensures) c.in_default-side_of.ensures), y) refl)))
+      (c.read_entire.ensures.says site q n);
 }
 
 pub returns-in_err-step : goal.returns-in_err-step

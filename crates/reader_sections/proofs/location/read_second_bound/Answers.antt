@@ -1,17 +1,13 @@
 -- `read_second_bound` meets its contract: with AND a letter and a longitude bound, without it the bound is over.
-use mathlib.Core.List.{List}
-use mathlib.Core.Path.{◌≡◌, refl, sym}
+use mathlib.Core.Path.{refl, sym}
 use borrow.Author.Rules.{rules}
 use Rattle.vocabulary.proofs.FixedWords.{fixed-and}
 use Rattle.message.specs.Locations.{no_side}
-use Rattle.grammar.specs.Numbers.{location_part}
 use Rattle.grammar.specs.Placing.{place_step}
 use Rattle.grammar.specs.Records.{bounded}
 use Rattle.grammar.specs.States.Placing.{at_and, at_second_bound, at_longitude_of}
 use Rattle.grammar.specs.States.State.{at_place}
 use Rattle.grammar.specs.States.{Site}
-use Rattle.grammar.specs.Steps.{after}
-use Rattle.reader_sections.specs.Parts.{part_number}
 use Rattle.reader_sections.specs.Steps.{Reaches}
 use Rattle.reader_sections.proofs.Leads.{then, then-ends, then-leads, leads-err}
 use Rattle.reader_sections.proofs.Locating.{on_step, past-step, following-number, east-letters, required-side, no-required-side}

@@ -1,7 +1,5 @@
 -- `read_observation` meets its contract: OBS, or a word that is judged as FCST, and what may follow.
-use mathlib.Core.List.{List}
 use mathlib.Core.Path.{refl}
-use Prim.Native.Nat.{ℕ}
 use borrow.Author.Rules.{rules}
 use Rattle.vocabulary.specs.Codes.{code-obs, code-fcst}
 use Rattle.vocabulary.proofs.FixedWords.{fixed-obs, fixed-fcst}
@@ -11,7 +9,7 @@ use Rattle.grammar.specs.States.{ToPhenomenon}
 use Rattle.grammar.specs.Steps.{step}
 use Rattle.reader_sections.specs.declared.parts.Part.TheVariants as part
 use Rattle.reader_sections.specs.declared.step.Step.{Step}
-use Rattle.reader_sections.specs.Steps.{next_word, Perhaps, Reaches}
+use Rattle.reader_sections.specs.Steps.{next_word, Perhaps}
 use Rattle.reader_sections.proofs.Leads.{then-leads, leads-err}
 use Rattle.reader_sections.proofs.OneWord.{AcceptsFixed, took-fixed, missed-fixed, given, without}
 use Rattle.reader_sections.proofs.observation.read_observation.Goals as goal
@@ -28,4 +26,4 @@ pub returns-in_err-step : goal.returns-in_err-step
 returns-in_err-step c = λ p. leads-err (missed-fixed (fcst p _ c.in_default.ensures) c.in_err-step.ensures) (search rules)
 
 pub returns : goal.returns
-returns c = λ p. then-leads (took-fixed (fcst p _ c.in_default.ensures) c.in_ok-step.ensures) (c.read_observed-in-None.ensures p)
+returns c = λ p. then-leads (took-fixed (fcst p _ c.in_default.ensures) c.in_ok-step.ensures) (c.read_observed-2.ensures p)

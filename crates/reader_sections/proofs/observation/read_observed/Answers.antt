@@ -4,7 +4,6 @@ use mathlib.Core.Path.{refl}
 use Prim.Native.Nat.{ℕ}
 use borrow.Author.Rules.{rules}
 use Rattle.vocabulary.proofs.FixedWords.{fixed-at}
-use Rattle.groups.specs.declared.Time.{Time}
 use Rattle.groups.specs.Groups.{time_of, good_time}
 use Rattle.grammar.specs.Records.{timed_at}
 use Rattle.grammar.specs.States.Placing.{at_location}

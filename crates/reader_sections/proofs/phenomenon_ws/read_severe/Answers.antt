@@ -4,13 +4,12 @@ use borrow.Author.Rules.{rules}
 use Rattle.std.specs.Prelude.{None}
 use Rattle.vocabulary.specs.Codes.{code-turb, code-mtw, code-ice}
 use Rattle.vocabulary.proofs.FixedWords.{fixed-turb, fixed-mtw, fixed-ice, fixed-freezing-rain}
-use Rattle.figures.specs.Codes.{code_of}
 use Rattle.grammar.specs.States.State.{at_severe, at_ice}
 use Rattle.grammar.specs.States.{ToArea}
 use Rattle.grammar.specs.Steps.{step}
 use Rattle.reader_sections.specs.declared.parts.Part.TheVariants.{Form}
 use Rattle.reader_sections.specs.declared.step.Step.{Step}
-use Rattle.reader_sections.specs.Steps.{next_word, word_on, Perhaps, Reaches}
+use Rattle.reader_sections.specs.Steps.{next_word, Perhaps, Reaches}
 use Rattle.reader_sections.proofs.Leads.{then, leads-err}
 use Rattle.reader_sections.proofs.OneWord.{AcceptsFixed, took-fixed, missed-fixed, given, left_out, without, code-other}
 use Rattle.reader_sections.proofs.phenomenon_ws.read_severe.Goals as goal

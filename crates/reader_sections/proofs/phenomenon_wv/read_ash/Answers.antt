@@ -29,13 +29,13 @@ unfolding step
 erupts o from n = record { does = rw (without fixed-cld from n) refl; number = refl; some = omega arith }
 
 past-va : (c : In_ok-step) (o : ToArea) → Judged o c.args.step → Reaches (at_form o) c.args.step (at_ash o) c.in_ok-step.step
-past-va c o j = took-fixed (va o _ j) c.in_ok-step.ensures
+past-va c o j = took-fixed (va o c.args.step j) c.in_ok-step.ensures
 
 past-eruption : (c : In_ok-step-2) (o : ToArea) → Judged o c.args.step → Reaches (at_form o) c.args.step (at_eruption o) c.in_ok-step-2.step
 past-eruption c o j = then (past-va (goal.at.In_ok-step-2 c).In_ok-step o j) (took-long _ (erupts o _ c.in_default.ensures) c.in_ok-step-2.ensures)
 
 pub returns-in_err-step : goal.returns-in_err-step
-returns-in_err-step c = record { says = λ o j. leads-err (missed-fixed (va o _ j) c.in_err-step.ensures) (search rules) }
+returns-in_err-step c = record { says = λ o j. leads-err (missed-fixed (va o c.args.step j) c.in_err-step.ensures) (search rules) }
 
 pub returns-in-Some : goal.returns-in-Some
 unfolding step

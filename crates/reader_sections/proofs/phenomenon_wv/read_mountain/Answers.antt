@@ -1,5 +1,6 @@
 -- `read_mountain` meets its contract: with MT a name and PSN, without it PSN.
-use mathlib.Core.Path.{◌≡◌, refl}
+use mathlib.Core.Bool.{true}
+use mathlib.Core.Path.{refl}
 use borrow.Author.Rules.{rules}
 use Rattle.std.specs.Prelude.{None}
 use Rattle.vocabulary.specs.Codes.{code-mt, code-psn}
@@ -46,7 +47,7 @@ pub returns-in-Some : goal.returns-in-Some
 returns-in-Some c = λ o. record { says = then (past-name (goal.at.returns-in-Some c).In_ok-name o) (took-fixed (psn o _ _ c.in_ok-name.ensures.whole) c.in_ok-step.ensures) }
 
 pub returns-in_err-step-2 : goal.returns-in_err-step-2
-returns-in_err-step-2 c = λ o. leads-err (missed-fixed (psn-alone o _ c.in_default.ensures) c.in_err-step.ensures) (search rules)
+returns-in_err-step-2 c = λ o. leads-err (missed-fixed (psn-alone o _ c.in_default.ensures) c.in_err-step-2.ensures) (search rules)
 
 pub returns : goal.returns
-returns c = λ o. record { says = took-fixed (psn-alone o _ c.in_default.ensures) c.in_ok-step.ensures }
+returns c = λ o. record { says = took-fixed (psn-alone o _ c.in_default.ensures) c.in_ok-step-2.ensures }

@@ -1,5 +1,4 @@
 -- `read_phenomenon` meets its contract: by the kind of the bulletin.
-use mathlib.Core.Bool.{true, false}
 use mathlib.Core.List.{List}
 use mathlib.Core.Path.{◌≡◌, sym, ◌∙◌}
 use Prim.Native.Nat.{ℕ}

@@ -10,10 +10,9 @@ use Rattle.vocabulary.proofs.FixedWords.{fixed-please}
 use Rattle.message.specs.Words.{test_texts}
 use Rattle.grammar.specs.Records.{test_of}
 use Rattle.grammar.specs.States.State.{at_test_text, at_end}
-use Rattle.grammar.specs.States.{ToArea, State}
+use Rattle.grammar.specs.States.{ToArea}
 use Rattle.grammar.specs.Steps.{step}
 use Rattle.reader_sections.specs.declared.parts.Part.TheVariants.{Form}
-use Rattle.reader_sections.specs.Steps.{Reaches}
 use Rattle.reader_sections.proofs.Leads.{then-moves, moves-err}
 use Rattle.reader_sections.proofs.OneWord.{AcceptsFixed, AcceptsLong, took-fixed, missed-fixed, long-moves}
 use Rattle.reader_sections.proofs.test_texts.read_please.Goals as goal

@@ -1,0 +1,58 @@
+-- `read_ending` meets its contract: by its first word it has a forecast (a WS), or moves or stands still.
+use mathlib.Core.Bool.{Bool, true, false, not}
+use mathlib.Core.Path.{◌≡◌, refl, ap, sym, ◌∙◌}
+use Prim.Native.Nat.{ℕ}
+use lib.Dec.{eqb}
+use borrow.Author.Rules.{rules}
+use borrow.Author.Tests.{eq-eqb, ne_eqb, eqb-false, not-true}
+use Rattle.lists.specs.Choice.{both}
+use Rattle.lists.proofs.Choice.{clash, both_left, both_right, both_true}
+use Rattle.figures.specs.Codes.{code_of}
+use Rattle.vocabulary.specs.Codes.{code-mov, code-stnr}
+use Rattle.vocabulary.proofs.FixedWords.{fixed-mov, fixed-stnr}
+use Rattle.message.specs.Limits.{ws}
+use Rattle.message.specs.Locations.{no_extent}
+use Rattle.grammar.specs.Records.{report_of}
+use Rattle.grammar.specs.States.State.{at_ending, at_end}
+use Rattle.grammar.specs.Steps.{step_ending, step}
+use Rattle.reader_sections.specs.declared.ending.UpToLevel.{UpToLevel}
+use Rattle.reader_sections.specs.declared.step.Step.{Step}
+use Rattle.reader_sections.specs.Endings.{level_in, Unforeseen, Forecasts}
+use Rattle.reader_sections.specs.Steps.{next_word, word_on, Reaches}
+use Rattle.reader_sections.proofs.Leads.{then-ends, then-accepted, replies-err}
+use Rattle.reader_sections.proofs.OneWord.{code-no, end-yes, end-no}
+use Rattle.reader_sections.proofs.ending.read_ending.Goals as goal
+use Rattle.reader_sections.proofs.ending.read_ending.Goals.{In_ok-ending}
+
+abbrev neither : ℕ → Bool
+neither code = both (not (eqb code code-mov)) (not (eqb code code-stnr))
+
+module _ (known : UpToLevel) (from : Step) {code : ℕ} {foreseen : Bool} (e : code ≡ code_of (word_on from))
+    (b : foreseen ≡ both (eqb known.opening.heading.designator.kind ws) (neither code)) where
+  unforeseen : foreseen ≡ false → Unforeseen (code_of (word_on from)) (level_in known)
+  unforeseen n k no-mov no-stnr =
+      clash foreseen (b ∙ both_true (eq-eqb _ ws k) (rw e (both_true (ap not (ne_eqb _ code-mov no-mov)) (ap not (ne_eqb _ code-stnr no-stnr))))) n
+
+  forecast : foreseen ≡ true → Forecasts (level_in known) (next_word from)
+  unfolding step step_ending
+  forecast y =
+      let other : neither (code_of (word_on from)) ≡ true = rw e at (both_right (eqb known.opening.heading.designator.kind ws) (neither code) (sym b ∙ y)) in
+      let no-mov = eqb-false _ code-mov (not-true _ (both_left _ _ other)) in
+      let no-stnr = eqb-false _ code-stnr (not-true _ (both_right (not (eqb (code_of (word_on from)) code-mov)) _ other)) in
+      rw (code-no fixed-mov from no-mov, code-no fixed-stnr from no-stnr, both_left (eqb known.opening.heading.designator.kind ws) (neither code) (sym b ∙ y)) refl
+
+past-ending : (c : In_ok-ending) → Reaches (at_ending (level_in c.args.known)) c.args.step (at_end (report_of (level_in c.args.known) c.in_ok-ending.ending no_extent)) c.in_ok-ending.step
+past-ending c = (c.in_ok-ending.ensures (level_in c.args.known) (unforeseen c.args.known c.args.step c.code.ensures c.foresees.ensures c.if-foresees.false)).says
+
+pub returns-then-foresees : goal.returns-then-foresees
+returns-then-foresees c = c.read_forecast.ensures (forecast c.args.known c.args.step c.code.ensures c.foresees.ensures c.if-foresees.true)
+
+pub returns-in_err-ending : goal.returns-in_err-ending
+returns-in_err-ending c =
+    replies-err (c.in_err-ending.ensures (level_in c.args.known) (unforeseen c.args.known c.args.step c.code.ensures c.foresees.ensures c.if-foresees.false)).says (search rules)
+
+pub returns-in_err-ended : goal.returns-in_err-ended
+returns-in_err-ended c = replies-err (then-ends (past-ending (goal.at.returns-in_err-ended c).In_ok-ending) (end-no _ c.in_err-ended.ensures)) (search rules)
+
+pub returns : goal.returns
+returns c = rw c.message.ensures (then-accepted (past-ending (goal.at.returns c).In_ok-ending) (end-yes _ c.in_ok-ended.ensures))
