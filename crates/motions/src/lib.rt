@@ -9,7 +9,7 @@ ghost use Rattle.motions.specs.Speeds.{unit_words, good_speed, speed_of};
 
 use figures::{code, find, two};
 
-// 1 to 99, in knots or kilometres an hour.
+// 1 to 99, in knots or kilometres an hour. A record may hold any numbers, and is judged by `good_speed`: so they stay numbers.
 #[derive(Clone, Copy, PartialEq, Eq)]
 pub struct Speed {
     pub value: u8,
@@ -24,7 +24,7 @@ pub const KILOMETRES: u8 = 2;
 // How many points the compass has.
 pub const COMPASS_POINTS: u8 = 16;
 
-// The number of no point of the compass.
+// The number of no point of the compass, as message and reader_sections name it still.
 pub const NO_COMPASS: u8 = COMPASS_POINTS;
 
 // The codes of `N`, `NNE` and so on, clockwise.
