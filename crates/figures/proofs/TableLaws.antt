@@ -12,14 +12,14 @@ use borrow.Author.Tests.{ltb-true, ltb-false, not-true, lt-ltb, le-ltb, le-leb, 
 use Rattle.std.specs.Prelude.{Option, Some, None}
 use Rattle.lists.specs.Choice.{pick, found}
 use Rattle.lists.specs.Lists.{all_of, index_of, same}
-use Rattle.lists.proofs.Choice.{by, both_left, both_right, both_true, both-false-left, pick_true, pick-false}
-use Rattle.lists.proofs.Lists.{all-at, index-none, index-found, index-within, same_refl, same-is}
+use Rattle.lists.proofs.Choice.{by, both_left, both_right, both_true, both-false-left, pick-false}
+use Rattle.lists.proofs.Lists.{all-at, index-found, index-within, same_refl, same-is}
 use Rattle.words.proofs.Ranges.{between-low, between-high}
 use Rattle.figures.specs.Reads.{Reads}
 use Rattle.figures.specs.Codes.{short, code_of}
 use Rattle.figures.specs.Tables.{word_in, word_of, in_table, distinct, number_in, numbered, in_numbers}
 use Rattle.figures.proofs.ReadsLaws.{Back}
-use Rattle.figures.proofs.CodeLaws.{same_code, code-tells}
+use Rattle.figures.proofs.CodeLaws.{same_code}
 
 pub find-word : (table : List (List ℕ)) (w : List ℕ) → all_of short table ≡ true → index_of (eqb (code_of w)) (map code_of table) ≡ word_in table w
 unfolding index_of all_of

@@ -14,6 +14,7 @@ pub struct Group {
     pub minute: u8,
 }
 
+// What the empty record has.
 pub const NO_GROUP: Group = Group {
     day: 0,
     hour: 0,

@@ -17,7 +17,7 @@ pub const KIND_WS: u8 = 2;
 
 pub const KIND_WV: u8 = 3;
 
-// The kind, the two letters in base 256 and the two digits.
+// The kind, the two letters in base 256 and the two digits. A record may hold any numbers, and is judged by `good_designator`: so they stay numbers.
 #[derive(Clone, Copy, PartialEq, Eq)]
 pub struct Designator {
     pub kind: u8,
@@ -25,6 +25,7 @@ pub struct Designator {
     pub number: u8,
 }
 
+// What the empty record has.
 pub const NO_DESIGNATOR: Designator = Designator {
     kind: 0,
     region: 0,
@@ -39,6 +40,7 @@ pub struct Sequence {
     pub number: u16,
 }
 
+// What the empty record has.
 pub const NO_SEQUENCE: Sequence = Sequence {
     letter: 0,
     digits: 0,

@@ -9,6 +9,7 @@ ghost use Rattle.levels.specs.Levels.{flight, good_band, good_level_word, feet_f
 
 use figures::{code, figures};
 
+// `NoLevel` is what a record has where no level is given: it stands in a field of the record, which keeps its form.
 #[derive(Clone, Copy, PartialEq, Eq)]
 pub enum Level {
     NoLevel,

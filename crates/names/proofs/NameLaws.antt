@@ -3,24 +3,21 @@
 use mathlib.Core.Bool.{Bool, true, false, not}
 use mathlib.Core.List.{List, [], ◌∷◌, ◌++◌}
 use mathlib.Core.Path.{◌≡◌, refl, ap, sym, ◌∙◌}
-use Prim.Native.Nat.{ℕ, suc, ◌+◌, ◌-◌, ◌≤◌, ◌<◌, zero-le, suc-le-suc}
+use Prim.Native.Nat.{ℕ, ◌-◌, ◌<◌, zero-le, suc-le-suc}
 use native.Mathlib.Nat.{not-suc-le-zero}
-use native.Mathlib.Omega.{arith}
 use lib.Dec.{ltb, eqb, lit<}
-use lib.ListN.{length, take, drop, get_or}
-use lib.Seq.{split_at, drop-drop}
-use borrow.Author.Tests.{ltb-true, ltb-false, eqb-true, eqb-false, eq-eqb, ne_eqb, not-true}
+use lib.ListN.{length, get_or}
+use borrow.Author.Tests.{eqb-true, eqb-false, eq-eqb, ne_eqb, not-true}
 use Rattle.lists.specs.Base.{worth_after}
-use Rattle.std.specs.Prelude.{Option, Some, None, position}
+use Rattle.std.specs.Prelude.{Some, None}
 use Rattle.std.specs.Option.{is_some}
-use Rattle.std.specs.List.{list_all}
+use Rattle.std.specs.List.{list_all, slice_split, onto_first}
 use Rattle.lists.specs.Choice.{pick, both, found}
-use Rattle.lists.specs.Lists.{index_of, all_of, part, same}
+use Rattle.lists.specs.Lists.{index_of, all_of, same}
 use Rattle.lists.specs.Text.{bytes}
 use Rattle.lists.proofs.Choice.{by, clash, both-unit, both_left, both_right, both_true, either-cases}
-use Rattle.lists.proofs.Lists.{index-found, index-clear, index-all, all_append, all-weaken}
-use Rattle.lists.proofs.Parts.{part-rest}
-use Rattle.lists.proofs.Words.{position-found, all-list}
+use Rattle.lists.proofs.Lists.{all_append, all-weaken}
+use Rattle.lists.proofs.Words.{all-list}
 use Rattle.words.specs.Bytes.{letter, solid, allowed, plain}
 use Rattle.words.specs.Words.{plain_word, line}
 use Rattle.words.proofs.Words.{run-all}
@@ -101,18 +98,6 @@ pieces-one (x ∷ xs) t =
 pub pieces-grow : (t w : List ℕ) → spaceless w ≡ true → pieces (t ++ (32 ∷ w)) ≡ pieces t ++ (w ∷ [])
 pieces-grow t w e = pieces-append t w ∙ ap (λ (r : List (List ℕ)). pieces t ++ r) (pieces-one w e)
 
--- the first piece of a text, and those after its first space
-pub pieces-first : (t : List ℕ) → index_of (eqb 32) t < length t
-    → pieces t ≡ take (index_of (eqb 32) t) t ∷ pieces (drop (suc (index_of (eqb 32) t)) t)
-pieces-first t h =
-    let k : ℕ = index_of (eqb 32) t in
-    let space : 32 ≡ get_or t k 0 = eqb-true 32 (get_or t k 0) (index-found (eqb 32) t 0 h) in
-    let split : t ≡ take k t ++ (32 ∷ drop (suc k) t) = rw (← space) at (split_at t k 0 h) in
-    ap pieces split ∙ (pieces-append (take k t) (drop (suc k) t) ∙ rw (pieces-one (take k t) (index-clear (eqb 32) t)))
-
-pub pieces-last : (t : List ℕ) → length t ≤ index_of (eqb 32) t → pieces t ≡ t ∷ []
-pieces-last t h = pieces-one t (index-all (eqb 32) t h)
-
 line-space : (ws : List (List ℕ)) → 0 < length ws → line ([] ∷ ws) ≡ 32 ∷ line ws
 unfolding line
 line-space [] h = absurd (not-suc-le-zero h)
@@ -145,45 +130,19 @@ all_one : (f : List ℕ → Bool) (w : List ℕ) → all_of f (w ∷ []) ≡ f w
 unfolding all_of
 all_one f w = both-unit (f w)
 
--- What `name_text` finds in what is left of the text, its first space or none; `r` is what the code found.
+-- the pieces are what the library's `split` gives
+onto-first : (x : ℕ) (ws : List (List ℕ)) → onto x ws ≡ onto_first x ws
+onto-first x [] = refl
+onto-first x (w ∷ ws) = refl
 
-module _ (t : List ℕ) {r : Option ℕ} (e : r ≡ position (eqb 32) t) where
-  told : r ≡ found (λ (n : ℕ). ltb n (length t)) (index_of (eqb 32) t)
-  told = e ∙ position-found (eqb 32) t
+pieces-split : (t : List ℕ) → pieces t ≡ slice_split (λ x. eqb x 32) t
+unfolding pieces
+pieces-split [] = refl
+pieces-split (x ∷ xs) = by (eqb x 32) (λ e. rw (e, pieces-split xs)) (λ e. rw (e, pieces-split xs) (onto-first x (slice_split (λ y. eqb y 32) xs)))
 
-  space-found : (k : ℕ) → r ≡ Some k → (k ≡ index_of (eqb 32) t) × (index_of (eqb 32) t < length t)
-  space-found k f =
-      by (ltb (index_of (eqb 32) t) (length t))
-      (λ h. let here : Some k ≡ Some (index_of (eqb 32) t) = sym f ∙ rw h at told in
-      (cc, ltb-true (index_of (eqb 32) t) (length t) h))
-      (λ h. let nowhere : Some k ≡ None = sym f ∙ rw h at told in
-      absurd (cc))
-
-  pieces-some-first : (k : ℕ) → r ≡ Some k → pieces t ≡ take k t ∷ pieces (drop (suc k) t)
-  pieces-some-first k f = let here = space-found k f in rw here.0 (pieces-first t here.1)
-
-  pieces-no-space : r ≡ None → pieces t ≡ t ∷ []
-  pieces-no-space f =
-      by (ltb (index_of (eqb 32) t) (length t))
-      (λ h. let somewhere : ◌≡◌ {A = Option ℕ} None (Some (index_of (eqb 32) t)) = sym f ∙ rw h at told in
-      absurd (cc))
-      (λ h. pieces-last t (ltb-false (index_of (eqb 32) t) (length t) h))
-
-  -- so the pieces from there on are still to be tested, or the test of one is the answer
-  module _ (m : Bool) (text : List ℕ) (left : name_text m text ≡ all_of (in_name m) (pieces t)) where
-    pub text-goes : {word after : List ℕ} (k : ℕ) → r ≡ Some k → word ≡ take k t → after ≡ drop k t → in_name m word ≡ true → name_text m text ≡ all_of (in_name m) (pieces (part 1 (length after) after))
-    unfolding all_of
-    text-goes {word} {after} k f w a h =
-        let one : k + 1 ≡ suc k = omega arith in
-        let next : drop 1 after ≡ drop (suc k) t = rw (a, ← one) (drop-drop 1 k t) in
-        left ∙ rw (pieces-some-first k f, ← w, h, part-rest after 1, next)
-
-    pub text-stops : {word : List ℕ} (k : ℕ) → r ≡ Some k → word ≡ take k t → in_name m word ≡ false → name_text m text ≡ false
-    unfolding all_of
-    text-stops k f w h = left ∙ rw (pieces-some-first k f, ← w, h)
-
-    pub text-ends : r ≡ None → name_text m text ≡ in_name m t
-    text-ends f = left ∙ rw (pieces-no-space f) (all_one (in_name m) t)
+pub text-split : (m : Bool) (t : List ℕ) → list_all (in_name m) (slice_split (λ x. eqb x 32) t) ≡ name_text m t
+unfolding name_text
+text-split m t = rw (pieces-split t, all-list (in_name m) (slice_split (λ x. eqb x 32) t))
 
 -- The words of a name, and a name grown by a word.
 

@@ -57,23 +57,9 @@ pub fn in_name(w: &[u8], mountain: bool) -> bool
     name_word(w) && !closes
 }
 
-fn first_space(t: &[u8]) -> Option<usize>
-    ensures { result ≡ position (eqb 32) t.now }
-{
-    t.iter().position(|x| b' ' == *x)
-}
-
 // The text of a name: words that a name may have, parted by single spaces.
 pub fn name_text(t: &[u8], mountain: bool) -> bool
     ensures { result ≡ name_text mountain t.now }
 {
-    let mut rest = t;
-    while let Some(space) = first_space(rest) {
-        let (word, after) = rest.split_at(space);
-        if !in_name(word, mountain) {
-            return false;
-        }
-        rest = &after[1..];
-    }
-    in_name(rest, mountain)
+    t.split(|x| *x == b' ').all(|word| in_name(word, mountain))
 }

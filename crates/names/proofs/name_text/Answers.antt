@@ -1,19 +1,16 @@
--- `name_text` meets its contract: the loop keeps what is still to be tested.
-use mathlib.Core.Path.{refl, sym, ◌∙◌}
-use Rattle.names.specs.Names.{name_text}
-use Rattle.names.proofs.NameLaws.{text-goes, text-stops, text-ends}
+-- `name_text` meets its contract: the library's `split` gives the pieces, and its `all` tests them.
+use mathlib.Core.Path.{◌∙◌}
+use lib.Dec.{eqb}
+use Rattle.std.proofs.Common.{rules, tests}
+use Rattle.std.proofs.lemmas.Iterator.Search.{all_from_yields_List}
+use Rattle.std.proofs.lemmas.Iterator.Splits.{YieldsList-from_slice_split}
+use Rattle.names.specs.Names.{in_name}
+use Rattle.names.proofs.NameLaws.{text-split}
 use Rattle.names.proofs.name_text.Goals as goal
 
-pub loop-space-init : goal.loop-space-init
-unfolding name_text
-loop-space-init c = refl
-
-pub returns-then-not-in_name : goal.returns-then-not-in_name
-returns-then-not-in_name c = sym (text-stops _ c.first_space.ensures _ _ c.loop-space.invariant _ c.in-Some.is c.split_at.ensures.front (sym c.in_name.ensures ∙ c.if-not-in_name.true))
-
-pub loop-space-preserved : goal.loop-space-preserved
-loop-space-preserved c =
-    text-goes _ c.first_space.ensures _ _ c.loop-space.invariant _ c.in-Some.is c.split_at.ensures.front c.split_at.ensures.back (sym c.in_name.ensures ∙ c.if-not-in_name.false)
-
 pub returns : goal.returns
-returns c = c.in_name-2.ensures ∙ sym (text-ends _ c.first_space.ensures _ _ c.loop-space.invariant c.in_default.is)
+returns c =
+    all_from_yields_List (in_name c.args.mountain) _ _ _ c.all.ensures.ran
+    (YieldsList-from_slice_split _ (λ x. eqb x 32) c.args.t.now c.split.ensures.rest c.split.ensures.done c.split.ensures.closure (λ x b q k. search (rules, tests)))
+    (λ x b q k. search (rules, tests))
+    ∙ text-split c.args.mountain c.args.t.now
