@@ -3,11 +3,12 @@ use mathlib.Core.Bool.{Bool, true, false, not}
 use mathlib.Core.List.{List}
 use mathlib.Core.Path.{◌≡◌, sym, ◌∙◌}
 use Prim.Native.Nat.{ℕ, ◌≤◌}
-use native.Mathlib.Omega.{arith}
 use borrow.Author.Tests.{not-true, not-false}
 use Rattle.lists.proofs.Choice.{both_left}
 use Rattle.words.proofs.Ranges.{between-low, between-high}
 use Rattle.pens.specs.Pens.{Puts}
+use Rattle.writer_sections.specs.declared.pen.Pen.{Pen}
+use Rattle.writer_sections.specs.Moves.{Moved}
 use Rattle.pens.proofs.PenLaws.{nothing}
 use Rattle.message.specs.declared.Bound.{Bound}
 use Rattle.message.specs.declared.Ending.TheVariants.{Forecast}
@@ -31,9 +32,10 @@ use Rattle.writer_sections.specs.Sections.{good_text, GoodReport, GoodPhenomenon
 pub found-good : (r : Record) {found : Bool} → found ≡ good r → not found ≡ false → good r ≡ true
 found-good r e f = sym e ∙ not-false _ f
 
-pub good-record : (r : Record) {found : Bool} {n : ℕ} {page p : List ℕ} → found ≡ good r → not found ≡ false → Puts (text_of r) 0 page n p
-    → Puts (good_text r) 0 page n p
-good-record r e f g = rw (found-good r e f) g
+-- the page as it was lent and as it is given back
+pub good-record : (r : Record) {found : Bool} {before after : Pen} {page : List ℕ} → found ≡ good r → not found ≡ false
+    → Moved (Puts (text_of r)) before after → after.page.now ≡ page → Puts (good_text r) before.at before.page.now after.at page
+good-record r e f g h = rw (found-good r e f) (rw h at g.says)
 
 pub bad-record : (r : Record) {found : Bool} {page : List ℕ} → found ≡ good r → not found ≡ true → Puts (good_text r) 0 page 0 page
 bad-record r e f = rw (sym e ∙ not-true _ f) nothing
@@ -75,10 +77,6 @@ forecast-good e f i g h = (forecast-parts g.kind i f (rw h at g.holds)).forecast
 pub bounded : (x : Extent) (b : Bound) → good_extent x ≡ true → x.location ≡ Bounded b → good_bound b ≡ true
 unfolding good_extent
 bounded x b g e = both_left (good_bound b) (no_points x.points) (rw e at g)
-
-pub outline-least : (x : Extent) (n : ℕ) → good_extent x ≡ true → x.location ≡ Outline n → 1 ≤ n
-unfolding good_extent
-outline-least x n g e = omega (arith, (outline-parts n x.points (rw e at g)).least)
 
 pub outline-most : (x : Extent) (n : ℕ) → good_extent x ≡ true → x.location ≡ Outline n → n ≤ most_points
 unfolding good_extent

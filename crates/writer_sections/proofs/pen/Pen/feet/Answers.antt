@@ -1,0 +1,12 @@
+-- `feet` meets its contract: `FT` goes on from the figures, which are as many as the number asks.
+use Rattle.figures.specs.Codes.{behind_one}
+use Rattle.writer_sections.proofs.Moves.{goes_on}
+use Rattle.writer_sections.proofs.pen.Pen.feet.Goals as goal
+
+pub returns : goal.returns
+unfolding behind_one
+returns c =
+    let figures = c.feet_figures.ensures in
+    let number = c.surface.ensures in
+    let unit = c.code.ensures in
+    rw (← figures) (goes_on number unit)
