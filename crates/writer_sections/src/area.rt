@@ -15,6 +15,7 @@ use message::{Area, Name};
 use names::CLOSED_BY_CTA;
 
 // The word with which an area closes.
+#[tactic(auto, using(crate::proofs::Tables::unnumbered), unfolding(names::specs::Names::closing_words, figures::specs::Codes::behind_one))]
 fn closing_word(n: u8) -> u64
     ensures { spell_code result ≡ numbered 1 closing_words n }
 {

@@ -17,6 +17,7 @@ use message::{Ending, Extent};
 use motions::Speed;
 
 // The sixteen points of the compass are numbered 0 (N) to 15 (NNW), clockwise.
+#[tactic(auto, using(crate::proofs::Tables::no_word), unfolding(motions::specs::Motions::compass_words, figures::specs::Codes::behind_one))]
 fn compass_word(direction: u8) -> u64
     ensures { spell_code result ≡ spell_compass direction }
 {
@@ -41,6 +42,7 @@ fn compass_word(direction: u8) -> u64
     }
 }
 
+#[tactic(auto, using(crate::proofs::Tables::unnumbered), unfolding(motions::specs::Motions::intensity_words, figures::specs::Codes::behind_one))]
 fn intensity_word(n: u8) -> u64
     ensures { spell_code result ≡ spell_intensity n }
 {
@@ -52,6 +54,7 @@ fn intensity_word(n: u8) -> u64
     }
 }
 
+#[tactic(auto, using(crate::proofs::Tables::unnumbered), unfolding(motions::specs::Speeds::unit_words, figures::specs::Codes::behind_one))]
 fn unit_word(n: u8) -> u64
     ensures { spell_code result ≡ numbered 1 unit_words n }
 {

@@ -16,6 +16,7 @@ use headings::{Designator, KIND_WS, KIND_WV};
 use message::Heading;
 
 // The type of bulletin by its kind.
+#[tactic(auto, using(crate::proofs::Tables::unnumbered), unfolding(headings::specs::Headings::type_words, figures::specs::Codes::behind_one))]
 fn type_word(kind: u8) -> u64
     ensures { spell_code result ≡ numbered 2 type_words kind }
 {

@@ -15,6 +15,7 @@ use message::{Bound, Extent, Location, MOST_POINTS, Side};
 use names::CLOSED_BY_CTA;
 
 // What the entire area is called: `CTA` where the area's name closes with that word, and `FIR` otherwise.
+#[tactic(auto, unfolding(figures::specs::Codes::behind_one))]
 fn entire_word(closing: u8) -> u64
     ensures { spell_code result ≡ entire_word closing }
 {

@@ -11,6 +11,7 @@ use crate::pen::Pen;
 use groups::Time;
 use message::{OBSERVED, Observation};
 
+#[tactic(auto, unfolding(figures::specs::Codes::behind_one))]
 fn observed_word(n: u8) -> u64
     ensures { spell_code result ≡ observed_word n }
 {

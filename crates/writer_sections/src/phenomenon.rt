@@ -11,6 +11,7 @@ use crate::pen::Pen;
 use message::{ASH_ERUPTION, Name, SEV_ICE_FZRA, Volcano};
 
 // The first word of a phenomenon, as `SEV` of `SEV TURB`.
+#[tactic(auto, using(crate::proofs::Tables::ranged), unfolding(message::specs::Reports::phenomena, lists::specs::Lists::same, figures::specs::Codes::behind_one))]
 fn first_word(n: u8) -> u64
     requires { (1 ≤ n) × (n ≤ eruption) }
     ensures { spell_code result ≡ first_word n }
@@ -28,6 +29,7 @@ fn first_word(n: u8) -> u64
 }
 
 // The second word, as `TURB` of `SEV TURB`. That of an eruption is longer than a code, and is not asked for here.
+#[tactic(auto, using(crate::proofs::Tables::ranged), unfolding(message::specs::Reports::phenomena, lists::specs::Lists::same, figures::specs::Codes::behind_one))]
 fn second_word(n: u8) -> u64
     requires { (1 ≤ n) × (n ≤ ash_cloud) }
     ensures { spell_code result ≡ second_word n }
