@@ -7,8 +7,6 @@ use borrow.Author.Tests.{not-true, not-false}
 use Rattle.lists.proofs.Choice.{both_left}
 use Rattle.words.proofs.Ranges.{between-low, between-high}
 use Rattle.pens.specs.Pens.{Puts}
-use Rattle.writer_sections.specs.declared.pen.Pen.{Pen}
-use Rattle.writer_sections.specs.Moves.{Moved}
 use Rattle.pens.proofs.PenLaws.{nothing}
 use Rattle.message.specs.declared.Bound.{Bound}
 use Rattle.message.specs.declared.Ending.TheVariants.{Forecast}
@@ -24,18 +22,12 @@ use Rattle.message.specs.Limits.{name_bytes, most_points}
 use Rattle.message.specs.Locations.{good_bound, good_extent, no_points}
 use Rattle.message.specs.Records.{good_form, good}
 use Rattle.message.specs.Reports.{good_volcano}
-use Rattle.message.specs.Words.{text_of}
 use Rattle.message.proofs.Goodness.{good-parts, area-parts, name-parts, outline-parts, forecast-parts, report-parts, volcano-parts}
 use Rattle.writer_sections.specs.Sections.{good_text, GoodReport, GoodPhenomenon, GoodMount, GoodEnding}
 
 -- what a test of the record found
 pub found-good : (r : Record) {found : Bool} → found ≡ good r → not found ≡ false → good r ≡ true
 found-good r e f = sym e ∙ not-false _ f
-
--- the page as it was lent and as it is given back
-pub good-record : (r : Record) {found : Bool} {before after : Pen} {page : List ℕ} → found ≡ good r → not found ≡ false
-    → Moved (Puts (text_of r)) before after → after.page.now ≡ page → Puts (good_text r) before.at before.page.now after.at page
-good-record r e f g h = rw (found-good r e f) (rw h at g.says)
 
 pub bad-record : (r : Record) {found : Bool} {page : List ℕ} → found ≡ good r → not found ≡ true → Puts (good_text r) 0 page 0 page
 bad-record r e f = rw (sym e ∙ not-true _ f) nothing

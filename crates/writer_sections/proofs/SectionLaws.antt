@@ -22,34 +22,25 @@ use Rattle.coordinates.specs.declared.Coordinate.{Coordinate}
 use Rattle.coordinates.specs.declared.Point.{Point}
 use Rattle.coordinates.specs.Coordinates.{Axis, north_south, east_west, spell_coordinate}
 use Rattle.coordinates.specs.Points.{point_words}
-use Rattle.groups.specs.declared.Time.{Time}
 use Rattle.groups.specs.Groups.{spell_time}
-use Rattle.headings.specs.Sequences.{letter_of}
 use Rattle.names.specs.Names.{onto, pieces}
 use Rattle.names.proofs.NameLaws.{pieces-some}
-use Rattle.levels.specs.declared.Level.{Level}
-use Rattle.levels.specs.Levels.{level_words}
 use Rattle.pens.specs.Pens.{pen, strokes, spaced, Puts, Words}
 use Rattle.writer_sections.specs.declared.pen.Pen.{Pen}
 use Rattle.writer_sections.specs.Moves.{Moved}
-use Rattle.writer_sections.proofs.Moves.{nothing, then, no_words, and_then, renamed, fixed, a-space, goes_on}
+use Rattle.writer_sections.proofs.Moves.{then, no_words, and_then, renamed, fixed, a-space, goes_on}
 use Rattle.message.specs.declared.Bound.{Bound}
-use Rattle.message.specs.declared.Ending.{Ending}
-use Rattle.message.specs.declared.Extent.{Extent}
-use Rattle.message.specs.declared.Form.{Form}
-use Rattle.message.specs.declared.Location.{Location}
 use Rattle.message.specs.declared.Name.{Name}
 use Rattle.message.specs.declared.Observation.{Observation}
-use Rattle.message.specs.declared.Record.{Record}
 use Rattle.message.specs.declared.Side.{Side}
 use Rattle.message.specs.declared.Volcano.{Volcano}
 use Rattle.message.specs.Limits.{name_bytes, mountain_limit, eruption}
-use Rattle.message.specs.Locations.{good_side, empty_side, good_bound, side_words, bound_words, dashed, joined, location_words, extent_words}
+use Rattle.message.specs.Locations.{good_side, empty_side, good_bound, side_words, bound_words, dashed, joined}
 use Rattle.message.specs.Names.{good_name, empty_name, unused_zero, name_words}
-use Rattle.message.specs.Reports.{phenomena, good_volcano, mount_words, volcano_words, phenomenon_words, observation_words, ending_words}
-use Rattle.message.specs.Words.{correction_words, form_words}
+use Rattle.message.specs.Reports.{phenomena, good_volcano, mount_words, volcano_words, phenomenon_words, observation_words}
+use Rattle.message.specs.Words.{correction_words}
 use Rattle.message.proofs.Goodness.{name-parts, side-parts, bound-cases, phenomenon-cases}
-use Rattle.writer_sections.specs.Sections.{GoodPhenomenon, GoodMount, test_words, named_words, first_word, second_word, freezing_rain, observed_word}
+use Rattle.writer_sections.specs.Sections.{GoodPhenomenon, GoodMount, named_words, first_word, second_word, freezing_rain, observed_word}
 use Rattle.writer_sections.proofs.Tables.{stretched}
 
 -- Letters that may be missing: a letter 0 is none.
@@ -59,12 +50,6 @@ no-correction e = rw e no_words
 
 pub a-correction : {letter : ℕ} {p0 p1 p2 : Pen} → (letter ≡ 0 → ⊥) → Moved (Words (bytes "CC" ∷ [])) p0 p1 → Moved (Puts (letter ∷ [])) p1 p2 → Moved (Words (correction_words letter)) p0 p2
 a-correction {letter} h f g = rw (ne_eqb letter 0 h) (goes_on f g)
-
-pub no-letter : {letter : ℕ} {p0 : Pen} → letter ≡ 0 → Moved (Puts (letter_of letter)) p0 p0
-no-letter e = rw e nothing
-
-pub a-letter : {letter : ℕ} {p0 p1 : Pen} → (letter ≡ 0 → ⊥) → Moved (Puts (letter ∷ [])) p0 p1 → Moved (Puts (letter_of letter)) p0 p1
-a-letter {letter} h f = rw (ne_eqb letter 0 h) f
 
 -- Coordinates.
 
@@ -260,24 +245,3 @@ points-joined (first ∷ ps) i d {p1 = p1} {p2 = p2} some all f g =
     let others : take (suc (length ps) - 1) ps ≡ ps = rw sub-one (take_all (length ps) ps (omega arith)) in
     let rest : Moved (Words (dashed ps)) p1 p2 = rw (take_all i _ all, others) at g in
     and_then f rest
-
--- What a `match` found.
-
-pub level-found : {l k : Level} {p0 p1 : Pen} → l ≡ k → Moved (Words (level_words k)) p0 p1 → Moved (Words (level_words l)) p0 p1
-level-found e f = rw e f
-
-pub ending-found : (end : Time) (closing : ℕ) (f : Extent) {d e : Ending} {p0 p1 : Pen} → d ≡ e → Moved (Words (ending_words end closing e f)) p0 p1 → Moved (Words (ending_words end closing d f)) p0 p1
-ending-found end closing f e g = rw e g
-
-pub location-found : (closing : ℕ) (x : Extent) {l : Location} {p0 p1 : Pen} → x.location ≡ l → Moved (Words (location_words closing l x.points)) p0 p1 → Moved (Words (extent_words closing x)) p0 p1
-unfolding extent_words
-location-found closing x e f = rw e f
-
-pub form-found : (r : Record) {f g : Form} {p0 p1 : Pen} → f ≡ g → Moved (Words (form_words r g)) p0 p1 → Moved (Words (form_words r f)) p0 p1
-form-found r e h = rw e h
-
-pub test-found : {n k : ℕ} {p0 p1 : Pen} → n ≡ k → Moved (Words (test_words k)) p0 p1 → Moved (Words (test_words n)) p0 p1
-test-found e f = rw e f
-
-pub last-test : {n : ℕ} {p0 p1 : Pen} → 1 ≤ n → n ≤ 3 → (n ≡ 1 → ⊥) → (n ≡ 2 → ⊥) → Moved (Words (test_words 3)) p0 p1 → Moved (Words (test_words n)) p0 p1
-last-test {n} low high g h f = let third : n ≡ 3 = omega arith in rw third f

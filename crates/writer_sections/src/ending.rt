@@ -108,6 +108,7 @@ impl Pen<'_> {
         self.extent(setting.closing, forecast);
     }
 
+    #[tactic(auto, using(crate::proofs::Moves::no_words), unfolding(message::specs::Reports::ending_words))]
     pub(crate) fn ending(&mut self, setting: Setting, ending: Ending, forecast: Extent)
         requires { GoodEnding ending forecast }
         ensures { Moved (Words (ending_words setting.end setting.closing ending forecast)) self.old self.new }

@@ -15,6 +15,7 @@ use message::FirstLine;
 
 impl Pen<'_> {
     // The letter of a sequence; letter 0 is none.
+    #[tactic(auto, using(crate::proofs::Moves::nothing))]
     fn letter(&mut self, letter: u8)
         ensures { Moved (Puts (letter_of letter)) self.old self.new }
     {

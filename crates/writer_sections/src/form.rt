@@ -44,6 +44,7 @@ impl Pen<'_> {
         self.please_disregard();
     }
 
+    #[tactic(auto, unfolding(message::specs::Words::test_texts, figures::specs::Codes::behind_one))]
     fn test(&mut self, n: u8)
         requires { (1 ≤ n) × (n ≤ 3) }
         ensures { Moved (Words (test_words n)) self.old self.new }
@@ -65,6 +66,7 @@ impl Pen<'_> {
     }
 
     // A cancellation's second group, and a forecast's time, are those of the end of VALID.
+    #[tactic(auto, using(crate::proofs::Moves::no_words), unfolding(message::specs::Words::form_words))]
     pub(crate) fn form(&mut self, r: Record)
         requires { good r ≡ true }
         ensures { Moved (Words (form_words r r.form)) self.old self.new }

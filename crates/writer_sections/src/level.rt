@@ -66,6 +66,7 @@ impl Pen<'_> {
         self.code(vocabulary::FT);
     }
 
+    #[tactic(auto, using(crate::proofs::Moves::no_words), unfolding(levels::specs::Levels::level_words, levels::specs::Levels::spell_level_word, figures::specs::Codes::behind_one))]
     pub(crate) fn level(&mut self, level: Level)
         ensures { Moved (Words (level_words level)) self.old self.new }
     {

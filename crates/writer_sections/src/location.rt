@@ -100,6 +100,7 @@ impl Pen<'_> {
         self.fixed(entire_word(closing));
     }
 
+    #[tactic(auto, using(crate::proofs::Moves::no_words), unfolding(message::specs::Locations::extent_words))]
     pub(crate) fn extent(&mut self, closing: u8, e: Extent)
         requires { good_extent e ≡ true }
         ensures { Moved (Words (extent_words closing e)) self.old self.new }
