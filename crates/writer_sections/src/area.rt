@@ -33,9 +33,7 @@ impl Pen<'_> {
         requires { n.count ≤ name_bytes }
         ensures { Moved (Words (name_words n)) self.old self.new }
     {
-        let text = n.bytes;
-        let count = n.count;
-        self.word(&text[..count]);
+        self.word(&n.bytes[..n.count]);
     }
 
     pub(crate) fn area(&mut self, a: Area)

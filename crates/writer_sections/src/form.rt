@@ -71,14 +71,13 @@ impl Pen<'_> {
         requires { good r ≡ true }
         ensures { Moved (Words (form_words r r.form)) self.old self.new }
     {
-        let form = r.form;
         let to = r.line.valid.to;
         let end = Time {
             hour: to.hour,
             minute: to.minute,
         };
         let closing = r.area.closing;
-        match form {
+        match r.form {
             Form::NoForm => {}
             Form::Test(n) => self.test(n),
             Form::Cancellation(s, from) => self.cancellation(s, Period { from, to }),

@@ -11,13 +11,19 @@ ghost use Rattle.writer_sections.specs.Sections.{flight_word, surface_word, feet
 use crate::pen::Pen;
 use levels::{Level, feet_figures};
 
+// The figures of a flight level.
+const FLIGHT_FIGURES: u8 = 3;
+
+// The figures of a height in metres.
+const METRES_FIGURES: u8 = 4;
+
 impl Pen<'_> {
-    // A height in three figures, and what stands before it in its word: `FL` or `SFC/FL`.
-    fn flight(&mut self, front: u64, n: u32)
-        ensures { Moved (Words ((spell_code front ++ in_figures 3 n) ∷ [])) self.old self.new }
+    // A height in so many figures, and what stands before it in its word: `FL`, `SFC/FL` or `SFC/`.
+    fn height(&mut self, front: u64, n: u32, figures: u8)
+        ensures { Moved (Words ((spell_code front ++ in_figures figures n) ∷ [])) self.old self.new }
     {
         self.fixed(front);
-        self.figures(n, 3);
+        self.figures(n, figures);
     }
 
     // `TOP` or `ABV`, and a flight level behind it.
@@ -25,7 +31,7 @@ impl Pen<'_> {
         ensures { Moved (Words (spell_code word ∷ flight_word n ∷ [])) self.old self.new }
     {
         self.fixed(word);
-        self.flight(vocabulary::FL, n);
+        self.height(vocabulary::FL, n, FLIGHT_FIGURES);
     }
 
     fn top_above(&mut self, n: u32)
@@ -39,30 +45,22 @@ impl Pen<'_> {
     fn band(&mut self, low: u32, high: u32)
         ensures { Moved (Words (band_word low high ∷ [])) self.old self.new }
     {
-        self.flight(vocabulary::FL, low);
+        self.height(vocabulary::FL, low, FLIGHT_FIGURES);
         self.byte(b'/');
-        self.figures(high, 3);
-    }
-
-    // `SFC/` and a number in so many figures, without the unit behind it.
-    fn surface(&mut self, n: u32, figures: u8)
-        ensures { Moved (Words (surface_word n figures ∷ [])) self.old self.new }
-    {
-        self.fixed(vocabulary::SURFACE);
-        self.figures(n, figures);
+        self.figures(high, FLIGHT_FIGURES);
     }
 
     fn metres(&mut self, n: u32)
         ensures { Moved (Words ((surface_word n 4 ++ bytes "M") ∷ [])) self.old self.new }
     {
-        self.surface(n, 4);
+        self.height(vocabulary::SURFACE, n, METRES_FIGURES);
         self.byte(b'M');
     }
 
     fn feet(&mut self, n: u32)
         ensures { Moved (Words (feet_word n ∷ [])) self.old self.new }
     {
-        self.surface(n, feet_figures(n));
+        self.height(vocabulary::SURFACE, n, feet_figures(n));
         self.code(vocabulary::FT);
     }
 
@@ -72,8 +70,8 @@ impl Pen<'_> {
     {
         match level {
             Level::NoLevel => {}
-            Level::Flight(n) => self.flight(vocabulary::FL, n),
-            Level::SurfaceFlight(n) => self.flight(vocabulary::SURFACE_FLIGHT, n),
+            Level::Flight(n) => self.height(vocabulary::FL, n, FLIGHT_FIGURES),
+            Level::SurfaceFlight(n) => self.height(vocabulary::SURFACE_FLIGHT, n, FLIGHT_FIGURES),
             Level::SurfaceMetres(n) => self.metres(n),
             Level::SurfaceFeet(n) => self.feet(n),
             Level::Band(low, high) => self.band(low, high),

@@ -105,12 +105,10 @@ impl Pen<'_> {
         requires { good_extent e ≡ true }
         ensures { Moved (Words (extent_words closing e)) self.old self.new }
     {
-        let location = e.location;
-        let points = e.points;
-        match location {
+        match e.location {
             Location::Nowhere => {}
             Location::Bounded(b) => self.bound(b),
-            Location::Outline(n) => self.outline(n, points),
+            Location::Outline(n) => self.outline(n, e.points),
             Location::Entire => self.entire(closing),
         }
     }

@@ -21,12 +21,10 @@ impl Pen<'_> {
         requires { GoodReport r }
         ensures { Moved (Words (report_words setting.end setting.closing r)) self.old self.new }
     {
-        let level = r.level;
-        let ending = r.ending;
         self.phenomenon(r.phenomenon, r.volcano);
         self.observation(r.observation);
         self.extent(setting.closing, r.extent);
-        self.level(level);
-        self.ending(setting, ending, r.forecast);
+        self.level(r.level);
+        self.ending(setting, r.ending, r.forecast);
     }
 }

@@ -5,8 +5,4 @@ use Rattle.writer_sections.proofs.pen.Pen.band.Goals as goal
 
 pub returns : goal.returns
 unfolding behind_one
-returns c =
-    let low = c.flight.ensures in
-    let slash = c.byte.ensures in
-    let high = c.figures.ensures in
-    goes_on low (then slash high)
+returns c = goes_on c.height.ensures (then c.byte.ensures c.figures.ensures)

@@ -5,8 +5,4 @@ use Rattle.writer_sections.proofs.pen.Pen.feet.Goals as goal
 
 pub returns : goal.returns
 unfolding behind_one
-returns c =
-    let figures = c.feet_figures.ensures in
-    let number = c.surface.ensures in
-    let unit = c.code.ensures in
-    rw (← figures) (goes_on number unit)
+returns c = rw (← c.feet_figures.ensures) (goes_on c.height.ensures c.code.ensures)

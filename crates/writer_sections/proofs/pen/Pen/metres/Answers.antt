@@ -1,9 +1,8 @@
 -- `metres` meets its contract: `M` goes on from the figures.
+use Rattle.figures.specs.Codes.{behind_one}
 use Rattle.writer_sections.proofs.Moves.{goes_on}
 use Rattle.writer_sections.proofs.pen.Pen.metres.Goals as goal
 
 pub returns : goal.returns
-returns c =
-    let number = c.surface.ensures in
-    let unit = c.byte.ensures in
-    goes_on number unit
+unfolding behind_one
+returns c = goes_on c.height.ensures c.byte.ensures
