@@ -1,3 +1,4 @@
 pub mod PenLaws
+pub mod CodeBytes
 pub mod Pages
 pub mod Determined

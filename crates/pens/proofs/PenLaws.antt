@@ -1,16 +1,16 @@
 -- A pen that puts one text and then another has put both; words with a space before each are a line; and a text with room is put whole.
-use mathlib.Core.List.{List, [], ◌∷◌, ◌++◌, map, map-append, append_assoc, append-nil}
+use mathlib.Core.List.{List, [], ◌∷◌, ◌++◌, map-append, append_assoc, append-nil}
 use mathlib.Core.Path.{◌≡◌, refl, ap, sym, subst, ◌∙◌}
 use Prim.Native.Nat.{ℕ, zero, suc, ◌+◌, ◌-◌, ◌/◌, ◌%◌, ◌≤◌, ◌<◌}
 use native.Mathlib.Nat.{add-zero, zero-add}
 use native.Mathlib.Numerals.{add-one, sub-one}
 use native.Mathlib.Omega.{arith}
 use lib.ListN.{length, get_or, take, drop, set, length-set}
-use lib.Seq.{take_all, take-suc, sets, sets-eq}
-use borrow.Author.Tests.{lt-ltb, le-ltb}
+use lib.Seq.{take-suc, sets, sets-eq}
+use borrow.Author.Tests.{lt-ltb}
 use Rattle.lists.specs.Base.{places}
 use Rattle.words.specs.Words.{line}
-use Rattle.figures.specs.Codes.{FixedWord, behind_one, spell_code}
+use Rattle.figures.specs.Codes.{FixedWord, spell_code}
 use Rattle.pens.specs.Pens.{Pen, pen, stroke, strokes, Puts, spaced, Words, Line, shifted}
 
 -- Texts.
@@ -27,15 +27,6 @@ nothing = record { says = refl }
 pub then : {a b : List ℕ} {at n m : ℕ} {page p q : List ℕ} → Puts a at page n p → Puts b n p m q → Puts (a ++ b) at page m q
 then {a} {b} {at} {n} {m} {page} f g = record { says = strokes-append a b (pen at page) ∙ (ap (strokes b) f.says ∙ g.says) }
 
--- one byte with room, and one without
-pub byte_put : {x at : ℕ} {page : List ℕ} → at < length page → Puts (x ∷ []) at page (at + 1) (set page at x)
-unfolding strokes stroke
-byte_put {x} {at} {page} h = record { says = rw (lt-ltb at (length page) h) }
-
-pub byte-stopped : {x at : ℕ} {page : List ℕ} → length page ≤ at → Puts (x ∷ []) at page at page
-unfolding strokes stroke
-byte-stopped {x} {at} {page} h = record { says = rw (le-ltb at (length page) h) }
-
 -- the same byte by another name
 pub put-alike : {x y at next : ℕ} {page after : List ℕ} → x ≡ y → Puts (x ∷ []) at page next after → Puts (y ∷ []) at page next after
 put-alike {x} {y} {at} {next} {page} {after} e f = subst (λ (z : ℕ). Puts (z ∷ []) at page next after) e f
@@ -46,9 +37,6 @@ pub one_more : (t : List ℕ) (i : ℕ) {at n m : ℕ} {page p q : List ℕ} →
 one_more t i h f g =
     let both : Puts (take i t ++ (get_or t i 0 ∷ [])) _ _ _ _ = then f g in
     record { says = rw (add-one i, take-suc t i 0 h) both.says }
-
-pub all-put : (t : List ℕ) (i : ℕ) {at n : ℕ} {page p : List ℕ} → length t ≤ i → Puts (take i t) at page n p → Puts t at page n p
-all-put t i h f = record { says = rw (take_all i t h) at f.says }
 
 -- no place of a number, and one more
 pub no_place : (first base k n : ℕ) {at : ℕ} {page : List ℕ} → k ≡ 0 → Puts (shifted first base k n) at page at page
@@ -64,29 +52,6 @@ place-more first base (suc k) n h f g =
     let both : Puts (shifted first base (suc k - 1) (n / base) ++ last) _ _ _ _ = then f g in
     let e : suc k - 1 ≡ k = sub-one (suc k) in
     record { says = rw (map-append (λ (d : ℕ). d + first) (places base k (n / base)) (n % base ∷ [])) (rw e at both.says) }
-
-pub unshifted : (l : List ℕ) → map (λ (d : ℕ). d + 0) l ≡ l
-unshifted [] = refl
-unshifted (x ∷ l) = rw (add-zero x, unshifted l)
-
--- no byte behind the 1 of a code, where no more may come or none is left, and one more
-pub no_more : (k n : ℕ) {at : ℕ} {page : List ℕ} → k ≡ 0 → Puts (behind_one k n) at page at page
-unfolding behind_one strokes
-no_more k n e = record { says = rw e }
-
-pub none_left : (k n : ℕ) {at : ℕ} {page : List ℕ} → n < 256 → Puts (behind_one k n) at page at page
-unfolding behind_one strokes
-none_left zero n e = record { says = refl }
-none_left (suc k) n e = record { says = rw (lt-ltb n 256 e) }
-
-pub byte_more : (k n : ℕ) {at m o : ℕ} {page p q : List ℕ} → (k ≡ 0 → ⊥) → 256 ≤ n → Puts (behind_one (k - 1) (n / 256)) at page m p
-    → Puts (n % 256 ∷ []) m p o q → Puts (behind_one k n) at page o q
-unfolding behind_one
-byte_more zero n h i f g = absurd (h refl)
-byte_more (suc k) n h i f g =
-    let both : Puts (behind_one (suc k - 1) (n / 256) ++ (n % 256 ∷ [])) _ _ _ _ = then f g in
-    let e : suc k - 1 ≡ k = sub-one (suc k) in
-    record { says = rw (le-ltb n 256 i) (rw e at both.says) }
 
 -- Words.
 

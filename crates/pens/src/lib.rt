@@ -2,9 +2,9 @@
 // stops: what does not fit is not put, and the pen stays.
 #![tactic(auto)]
 
-ghost use Rattle.std.specs.Prelude.{[], ◌∷◌, ◌≡◌, ◌+◌, ◌≤◌, ◌<◌};
+ghost use Rattle.std.specs.Prelude.{[], ◌∷◌, ◌≡◌, ◌==◌, not, ◌+◌, ◌≤◌, ◌<◌, position};
 ghost use Rattle.lists.specs.Base.{places};
-ghost use Rattle.figures.specs.Codes.{behind_one, spell_code};
+ghost use Rattle.figures.specs.Codes.{spell_code};
 ghost use Rattle.figures.specs.Figures.{in_figures};
 ghost use Rattle.pens.specs.Pens.{Puts, Words, shifted};
 
@@ -22,6 +22,7 @@ pub fn refused(number: u8) -> Written
 }
 
 // One byte.
+#[tactic(auto, unfolding(crate::specs::Pens::strokes, crate::specs::Pens::stroke))]
 pub fn put(out: &mut [u8], at: usize, x: u8) -> usize
     ensures { Puts (x ∷ []) at out.old result out.new }
 {
@@ -36,11 +37,9 @@ pub fn put(out: &mut [u8], at: usize, x: u8) -> usize
 pub fn put_all(out: &mut [u8], at: usize, text: &[u8]) -> usize
     ensures { Puts text.now at out.old result out.new }
 {
-    let mut i = 0;
     let mut next = at;
-    while i < text.len() {
-        next = put(out, next, text[i]);
-        i += 1;
+    for x in text {
+        next = put(out, next, *x);
     }
     next
 }
@@ -53,52 +52,49 @@ pub fn put_word(out: &mut [u8], at: usize, word: &[u8]) -> usize
     put_all(out, next, word)
 }
 
-// The last k places of n in a base, the greatest first, each put as a byte from `first` on.
-fn put_places(out: &mut [u8], at: usize, n: u32, k: u8, base: u32, first: u8) -> usize
-    requires { (0 < base) × (base + first ≤ 256) }
-    ensures { Puts (shifted first base k n) at out.old result out.new }
+// The last k places of n in a base, the greatest first, each put as a byte from FIRST on. It calls itself as the definition does: places stand
+// from the greatest to the least, and are known from the least on.
+fn put_places<const BASE: u32, const FIRST: u8>(out: &mut [u8], at: usize, n: u32, k: u8) -> usize
+    requires { (0 < BASE) × (BASE + FIRST ≤ 256) }
+    ensures { Puts (shifted FIRST BASE k n) at out.old result out.new }
 {
     if k == 0 {
         return at;
     }
-    let next = put_places(out, at, n / base, k - 1, base, first);
-    put(out, next, (n % base) as u8 + first)
+    let next = put_places::<BASE, FIRST>(out, at, n / BASE, k - 1);
+    put(out, next, (n % BASE) as u8 + FIRST)
 }
 
 // The last k decimal figures of n.
 pub fn put_figures(out: &mut [u8], at: usize, n: u32, k: u8) -> usize
     ensures { Puts (in_figures k n) at out.old result out.new }
 {
-    put_places(out, at, n, k, 10, b'0')
+    put_places::<10, b'0'>(out, at, n, k)
 }
 
 // The last k bytes of n, the greatest first: letters are kept so, and the numbers of a listing are written so.
 pub fn put_big_endian(out: &mut [u8], at: usize, n: u32, k: u8) -> usize
     ensures { Puts (places 256 k n) at out.old result out.new }
 {
-    put_places(out, at, n, k, 256, 0)
+    put_places::<256, 0>(out, at, n, k)
 }
 
-// The bytes of a code behind its 1, at most k of them.
-fn put_behind_one(out: &mut [u8], at: usize, code: u64, k: u8) -> usize
-    ensures { Puts (behind_one k code) at out.old result out.new }
+// Where the 1 of a code stands among its bytes: it is the first that is not 0.
+fn one_of(bytes: &[u8]) -> Option<usize>
+    ensures { result ≡ position (λ x. not (x == 0)) bytes.now }
 {
-    if k == 0 {
-        return at;
-    }
-    let none_left = code < 256;
-    if none_left {
-        return at;
-    }
-    let next = put_behind_one(out, at, code / 256, k - 1);
-    put(out, next, (code % 256) as u8)
+    bytes.iter().position(|x| *x != 0)
 }
 
-// The word of a code.
+// The word of a code: the bytes behind its 1.
 pub fn put_code(out: &mut [u8], at: usize, code: u64) -> usize
     ensures { Puts (spell_code code) at out.old result out.new }
 {
-    put_behind_one(out, at, code, 7)
+    let bytes = code.to_be_bytes();
+    let Some(one) = one_of(&bytes) else {
+        return at;
+    };
+    put_all(out, at, &bytes[one + 1..])
 }
 
 // A space, and the word of a code behind it.

@@ -69,9 +69,8 @@ no_room r w buffer n g l h s e =
     (wrote-is w buffer 14 0 e.0 e.1)
 
 -- the text goes from the page into the buffer
-pub all-written : (r : Record) (n : ℕ) {text buffer after : List ℕ} {m : ℕ} → good r ≡ true → n ≡ length (text_of r) → n ≤ 2048 → n ≤ length buffer
-    → text ≡ text_of r → Puts text 0 buffer m after → wrote (record { number = 0; count = n }) after ≡ write_of r buffer
+pub all-written : (r : Record) (n : ℕ) (buffer : List ℕ) {text front : List ℕ} → good r ≡ true → n ≡ length (text_of r) → n ≤ 2048 → n ≤ length buffer
+    → text ≡ text_of r → front ≡ text → wrote (record { number = 0; count = n }) (front ++ drop n buffer) ≡ write_of r buffer
 unfolding write_of
-all-written r n {text} {buffer} {after} g l h s e f =
-    let same : after ≡ text_of r ++ drop (length (text_of r)) buffer = put-page (rw e at f) (omega arith) in
-    rw (g, le-ltb 2048 (length (text_of r)) (omega arith), le-ltb (length buffer) (length (text_of r)) (omega arith), l, same)
+all-written r n buffer g l h s e f =
+    rw (g, le-ltb 2048 (length (text_of r)) (omega arith), le-ltb (length buffer) (length (text_of r)) (omega arith), f, e, l)

@@ -6,29 +6,37 @@ ghost use Rattle.grammar.specs.Writes.{write_of};
 ghost use Rattle.pens.specs.Outcomes.{wrote};
 
 use message::Record;
-use pens::{Written, put_all, refused};
+use pens::{Written, refused};
 use writer_sections::put_text;
 
-// The most bytes that a text may have.
+// The numbers of the refusals.
+const BAD_RECORD: u8 = 13;
+
+const NO_ROOM: u8 = 14;
+
+const TOO_LONG: u8 = 24;
+
+// The most bytes that a text may have. The page has one byte more, so that a longer text is seen.
 const MOST_BYTES: usize = 2048;
 
-// Writes the canonical text at the front of the buffer. No byte is put on the page for a record that is not good. The page has one byte more than
-// a text may have, so that a longer one is seen.
+const PAGE_BYTES: usize = MOST_BYTES + 1;
+
+// Writes the canonical text at the front of the buffer. No byte is put on the page for a record that is not good.
 pub fn write(message: Record, out: &mut [u8]) -> Written
     ensures { wrote result out.new ≡ write_of message out.old }
 {
-    let mut page = [0u8; 2049];
+    let mut page = [0u8; PAGE_BYTES];
     let count = put_text(&mut page, message);
     let bad = count == 0;
     if bad {
-        return refused(13);
+        return refused(BAD_RECORD);
     }
     if MOST_BYTES < count {
-        return refused(24);
+        return refused(TOO_LONG);
     }
     if out.len() < count {
-        return refused(14);
+        return refused(NO_ROOM);
     }
-    put_all(out, 0, &page[..count]);
+    out[..count].copy_from_slice(&page[..count]);
     Written { number: 0, count }
 }

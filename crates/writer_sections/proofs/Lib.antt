@@ -1,4 +1,5 @@
 pub mod Tables
+pub mod Moves
 pub mod RecordLaws
 pub mod SectionLaws
 pub mod Sentences

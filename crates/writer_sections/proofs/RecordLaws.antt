@@ -3,7 +3,6 @@ use mathlib.Core.Bool.{Bool, true, false, not}
 use mathlib.Core.List.{List}
 use mathlib.Core.Path.{◌≡◌, sym, ◌∙◌}
 use Prim.Native.Nat.{ℕ, ◌≤◌}
-use native.Mathlib.Omega.{arith}
 use borrow.Author.Tests.{not-true, not-false}
 use Rattle.lists.proofs.Choice.{both_left}
 use Rattle.words.proofs.Ranges.{between-low, between-high}
@@ -23,17 +22,12 @@ use Rattle.message.specs.Limits.{name_bytes, most_points}
 use Rattle.message.specs.Locations.{good_bound, good_extent, no_points}
 use Rattle.message.specs.Records.{good_form, good}
 use Rattle.message.specs.Reports.{good_volcano}
-use Rattle.message.specs.Words.{text_of}
 use Rattle.message.proofs.Goodness.{good-parts, area-parts, name-parts, outline-parts, forecast-parts, report-parts, volcano-parts}
 use Rattle.writer_sections.specs.Sections.{good_text, GoodReport, GoodPhenomenon, GoodMount, GoodEnding}
 
 -- what a test of the record found
 pub found-good : (r : Record) {found : Bool} → found ≡ good r → not found ≡ false → good r ≡ true
 found-good r e f = sym e ∙ not-false _ f
-
-pub good-record : (r : Record) {found : Bool} {n : ℕ} {page p : List ℕ} → found ≡ good r → not found ≡ false → Puts (text_of r) 0 page n p
-    → Puts (good_text r) 0 page n p
-good-record r e f g = rw (found-good r e f) g
 
 pub bad-record : (r : Record) {found : Bool} {page : List ℕ} → found ≡ good r → not found ≡ true → Puts (good_text r) 0 page 0 page
 bad-record r e f = rw (sym e ∙ not-true _ f) nothing
@@ -75,10 +69,6 @@ forecast-good e f i g h = (forecast-parts g.kind i f (rw h at g.holds)).forecast
 pub bounded : (x : Extent) (b : Bound) → good_extent x ≡ true → x.location ≡ Bounded b → good_bound b ≡ true
 unfolding good_extent
 bounded x b g e = both_left (good_bound b) (no_points x.points) (rw e at g)
-
-pub outline-least : (x : Extent) (n : ℕ) → good_extent x ≡ true → x.location ≡ Outline n → 1 ≤ n
-unfolding good_extent
-outline-least x n g e = omega (arith, (outline-parts n x.points (rw e at g)).least)
 
 pub outline-most : (x : Extent) (n : ℕ) → good_extent x ≡ true → x.location ≡ Outline n → n ≤ most_points
 unfolding good_extent

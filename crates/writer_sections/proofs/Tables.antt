@@ -1,8 +1,7 @@
 -- Numbers and the words of tables: a number that is in no table, and a stretch of numbers that have one word.
 use mathlib.Core.Bool.{Bool, true}
 use mathlib.Core.List.{List, []}
-use mathlib.Core.Logic.{◌⊎◌, inl, inr}
-use mathlib.Core.Path.{◌≡◌, ap, sym, ◌∙◌}
+use mathlib.Core.Path.{◌≡◌, sym}
 use Prim.Native.Nat.{ℕ, zero, suc, ◌+◌, ◌-◌, ◌≤◌, ◌<◌}
 use native.Mathlib.Omega.{arith}
 use lib.Dec.{eqb, ltb}
@@ -58,11 +57,3 @@ stretched f first (suc count) n t low high =
 pub ranged : (word : ℕ → List ℕ) (w : List ℕ) (first count n : ℕ) → stretch first count (λ (k : ℕ). same (word k) w) ≡ true → first ≤ n
     → n < first + count → w ≡ word n
 ranged word w first count n t low high = sym (same-is (word n) w (stretched (λ (k : ℕ). same (word k) w) first count n t low high))
-
--- four numbers have that word
-pub one-of-four : (word : ℕ → List ℕ) (w : List ℕ) (a b c d n : ℕ) → word a ≡ w → word b ≡ w → word c ≡ w → word d ≡ w
-    → (n ≡ a) ⊎ ((n ≡ b) ⊎ ((n ≡ c) ⊎ (n ≡ d))) → word n ≡ w
-one-of-four word w a b c d n p q r s (inl e) = ap word e ∙ p
-one-of-four word w a b c d n p q r s (inr (inl e)) = ap word e ∙ q
-one-of-four word w a b c d n p q r s (inr (inr (inl e))) = ap word e ∙ r
-one-of-four word w a b c d n p q r s (inr (inr (inr e))) = ap word e ∙ s

@@ -7,23 +7,15 @@ ghost use Rattle.message.specs.Limits.{name_bytes};
 ghost use Rattle.message.specs.Names.{name_words};
 ghost use Rattle.message.specs.Words.{area_words};
 ghost use Rattle.pens.specs.Pens.{Words, Line};
+ghost use Rattle.writer_sections.specs.Moves.{Moved};
 
 use crate::NO_WORD;
+use crate::pen::Pen;
 use message::{Area, Name};
 use names::CLOSED_BY_CTA;
-use pens::{put_big_endian, put_fixed, put_word};
-
-// The words of a name. The record keeps them as one text with single spaces, so that a space before it is all that is missing.
-pub(crate) fn put_name(out: &mut [u8], at: usize, n: Name) -> usize
-    requires { n.count ≤ name_bytes }
-    ensures { Words (name_words n) at out.old result out.new }
-{
-    let text = n.bytes;
-    let count = n.count;
-    put_word(out, at, &text[..count])
-}
 
 // The word with which an area closes.
+#[tactic(auto, using(crate::proofs::Tables::unnumbered), unfolding(names::specs::Names::closing_words, figures::specs::Codes::behind_one))]
 fn closing_word(n: u8) -> u64
     ensures { spell_code result ≡ numbered 1 closing_words n }
 {
@@ -35,11 +27,21 @@ fn closing_word(n: u8) -> u64
     }
 }
 
-pub(crate) fn put_area(out: &mut [u8], at: usize, a: Area) -> usize
-    requires { a.name.count ≤ name_bytes }
-    ensures { Line (area_words a) at out.old result out.new }
-{
-    let indicator_end = put_big_endian(out, at, a.indicator, 4);
-    let name_end = put_name(out, indicator_end, a.name);
-    put_fixed(out, name_end, closing_word(a.closing))
+impl Pen<'_> {
+    // The words of a name. The record keeps them as one text with single spaces, so that a space before it is all that is missing.
+    pub(crate) fn name(&mut self, n: Name)
+        requires { n.count ≤ name_bytes }
+        ensures { Moved (Words (name_words n)) self.old self.new }
+    {
+        self.word(&n.bytes[..n.count]);
+    }
+
+    pub(crate) fn area(&mut self, a: Area)
+        requires { a.name.count ≤ name_bytes }
+        ensures { Moved (Line (area_words a)) self.old self.new }
+    {
+        self.letters(a.indicator, 4);
+        self.name(a.name);
+        self.fixed(closing_word(a.closing));
+    }
 }

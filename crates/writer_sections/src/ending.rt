@@ -7,17 +7,17 @@ ghost use Rattle.message.specs.Reports.{ending_words};
 ghost use Rattle.motions.specs.Motions.{spell_compass, spell_intensity};
 ghost use Rattle.motions.specs.Speeds.{unit_words, spell_speed};
 ghost use Rattle.pens.specs.Pens.{Words};
+ghost use Rattle.writer_sections.specs.Moves.{Moved};
 ghost use Rattle.writer_sections.specs.Sections.{GoodEnding, moving_words, stationary_words, forecast_words};
 
 use crate::NO_WORD;
-use crate::location::put_extent;
-use crate::observation::put_time;
-use groups::Time;
+use crate::pen::Pen;
+use crate::report::Setting;
 use message::{Ending, Extent};
 use motions::Speed;
-use pens::{put, put_code, put_figures, put_fixed};
 
 // The sixteen points of the compass are numbered 0 (N) to 15 (NNW), clockwise.
+#[tactic(auto, using(crate::proofs::Tables::no_word), unfolding(motions::specs::Motions::compass_words, figures::specs::Codes::behind_one))]
 fn compass_word(direction: u8) -> u64
     ensures { spell_code result ≡ spell_compass direction }
 {
@@ -42,6 +42,7 @@ fn compass_word(direction: u8) -> u64
     }
 }
 
+#[tactic(auto, using(crate::proofs::Tables::unnumbered), unfolding(motions::specs::Motions::intensity_words, figures::specs::Codes::behind_one))]
 fn intensity_word(n: u8) -> u64
     ensures { spell_code result ≡ spell_intensity n }
 {
@@ -53,12 +54,7 @@ fn intensity_word(n: u8) -> u64
     }
 }
 
-fn put_intensity(out: &mut [u8], at: usize, n: u8) -> usize
-    ensures { Words (spell_intensity n ∷ []) at out.old result out.new }
-{
-    put_fixed(out, at, intensity_word(n))
-}
-
+#[tactic(auto, using(crate::proofs::Tables::unnumbered), unfolding(motions::specs::Speeds::unit_words, figures::specs::Codes::behind_one))]
 fn unit_word(n: u8) -> u64
     ensures { spell_code result ≡ numbered 1 unit_words n }
 {
@@ -69,65 +65,59 @@ fn unit_word(n: u8) -> u64
     }
 }
 
-// Two figures and the unit, in one word.
-fn put_speed(out: &mut [u8], at: usize, s: Speed) -> usize
-    ensures { Words (spell_speed s ∷ []) at out.old result out.new }
-{
-    let start = put(out, at, b' ');
-    let value_end = put_figures(out, start, s.value as u32, 2);
-    put_code(out, value_end, unit_word(s.unit))
-}
+impl Pen<'_> {
+    fn intensity(&mut self, n: u8)
+        ensures { Moved (Words (spell_intensity n ∷ [])) self.old self.new }
+    {
+        self.fixed(intensity_word(n));
+    }
 
-fn put_moving(out: &mut [u8], at: usize, direction: u8, s: Speed, intensity: u8) -> usize
-    ensures { Words (moving_words direction s intensity) at out.old result out.new }
-{
-    let moving_end = put_fixed(out, at, vocabulary::MOV);
-    let direction_end = put_fixed(out, moving_end, compass_word(direction));
-    let speed_end = put_speed(out, direction_end, s);
-    put_intensity(out, speed_end, intensity)
-}
+    // Two figures and the unit, in one word.
+    fn speed(&mut self, s: Speed)
+        ensures { Moved (Words (spell_speed s ∷ [])) self.old self.new }
+    {
+        self.byte(b' ');
+        self.figures(s.value as u32, 2);
+        self.code(unit_word(s.unit));
+    }
 
-fn put_stationary(out: &mut [u8], at: usize, intensity: u8) -> usize
-    ensures { Words (stationary_words intensity) at out.old result out.new }
-{
-    let stationary_end = put_fixed(out, at, vocabulary::STNR);
-    put_intensity(out, stationary_end, intensity)
-}
+    fn moving(&mut self, direction: u8, s: Speed, intensity: u8)
+        ensures { Moved (Words (moving_words direction s intensity)) self.old self.new }
+    {
+        self.fixed(vocabulary::MOV);
+        self.fixed(compass_word(direction));
+        self.speed(s);
+        self.intensity(intensity);
+    }
 
-fn put_forecast(
-    out: &mut [u8],
-    at: usize,
-    end: Time,
-    closing: u8,
-    intensity: u8,
-    forecast: Extent,
-) -> usize
-    requires { good_extent forecast ≡ true }
-    ensures { Words (forecast_words end closing intensity forecast) at out.old result out.new }
-{
-    let intensity_end = put_intensity(out, at, intensity);
-    let forecast_end = put_fixed(out, intensity_end, vocabulary::FCST);
-    let time_start = put_fixed(out, forecast_end, vocabulary::AT);
-    let time_end = put_time(out, time_start, end);
-    put_extent(out, time_end, closing, forecast)
-}
+    fn stationary(&mut self, intensity: u8)
+        ensures { Moved (Words (stationary_words intensity)) self.old self.new }
+    {
+        self.fixed(vocabulary::STNR);
+        self.intensity(intensity);
+    }
 
-// The end of VALID is the time of a forecast; the area's closing word tells what the entire area is called.
-pub(crate) fn put_ending(
-    out: &mut [u8],
-    at: usize,
-    end: Time,
-    closing: u8,
-    ending: Ending,
-    forecast: Extent,
-) -> usize
-    requires { GoodEnding ending forecast }
-    ensures { Words (ending_words end closing ending forecast) at out.old result out.new }
-{
-    match ending {
-        Ending::NoEnding => at,
-        Ending::Moving(direction, s, intensity) => put_moving(out, at, direction, s, intensity),
-        Ending::Stationary(intensity) => put_stationary(out, at, intensity),
-        Ending::Forecast(intensity) => put_forecast(out, at, end, closing, intensity, forecast),
+    fn forecast(&mut self, setting: Setting, intensity: u8, forecast: Extent)
+        requires { good_extent forecast ≡ true }
+        ensures { Moved (Words (forecast_words setting.end setting.closing intensity forecast)) self.old self.new }
+    {
+        self.intensity(intensity);
+        self.fixed(vocabulary::FCST);
+        self.fixed(vocabulary::AT);
+        self.time(setting.end);
+        self.extent(setting.closing, forecast);
+    }
+
+    #[tactic(auto, using(crate::proofs::Moves::no_words), unfolding(message::specs::Reports::ending_words))]
+    pub(crate) fn ending(&mut self, setting: Setting, ending: Ending, forecast: Extent)
+        requires { GoodEnding ending forecast }
+        ensures { Moved (Words (ending_words setting.end setting.closing ending forecast)) self.old self.new }
+    {
+        match ending {
+            Ending::NoEnding => {}
+            Ending::Moving(direction, s, intensity) => self.moving(direction, s, intensity),
+            Ending::Stationary(intensity) => self.stationary(intensity),
+            Ending::Forecast(intensity) => self.forecast(setting, intensity, forecast),
+        }
     }
 }

@@ -5,77 +5,79 @@ ghost use Rattle.figures.specs.Codes.{spell_code};
 ghost use Rattle.figures.specs.Figures.{in_figures};
 ghost use Rattle.levels.specs.Levels.{level_words};
 ghost use Rattle.pens.specs.Pens.{Words};
+ghost use Rattle.writer_sections.specs.Moves.{Moved};
 ghost use Rattle.writer_sections.specs.Sections.{flight_word, surface_word, feet_word, band_word};
 
+use crate::pen::Pen;
 use levels::{Level, feet_figures};
-use pens::{put, put_code, put_figures, put_fixed};
 
-// A height in three figures, and what stands before it in its word: `FL` or `SFC/FL`.
-fn put_flight(out: &mut [u8], at: usize, front: u64, n: u32) -> usize
-    ensures { Words ((spell_code front ++ in_figures 3 n) ∷ []) at out.old result out.new }
-{
-    let front_end = put_fixed(out, at, front);
-    put_figures(out, front_end, n, 3)
-}
+// The figures of a flight level.
+const FLIGHT_FIGURES: u8 = 3;
 
-// `TOP` or `ABV`, and a flight level behind it.
-fn put_flight_behind(out: &mut [u8], at: usize, word: u64, n: u32) -> usize
-    ensures { Words (spell_code word ∷ flight_word n ∷ []) at out.old result out.new }
-{
-    let word_end = put_fixed(out, at, word);
-    put_flight(out, word_end, vocabulary::FL, n)
-}
+// The figures of a height in metres.
+const METRES_FIGURES: u8 = 4;
 
-fn put_top_above(out: &mut [u8], at: usize, n: u32) -> usize
-    ensures { Words (bytes "TOP" ∷ bytes "ABV" ∷ flight_word n ∷ []) at out.old result out.new }
-{
-    let top_end = put_fixed(out, at, vocabulary::TOP);
-    put_flight_behind(out, top_end, vocabulary::ABV, n)
-}
+impl Pen<'_> {
+    // A height in so many figures, and what stands before it in its word: `FL`, `SFC/FL` or `SFC/`.
+    fn height(&mut self, front: u64, n: u32, figures: u8)
+        ensures { Moved (Words ((spell_code front ++ in_figures figures n) ∷ [])) self.old self.new }
+    {
+        self.fixed(front);
+        self.figures(n, figures);
+    }
 
-// Two flight levels with a `/` between, `FL` before the first alone.
-fn put_band(out: &mut [u8], at: usize, low: u32, high: u32) -> usize
-    ensures { Words (band_word low high ∷ []) at out.old result out.new }
-{
-    let low_end = put_flight(out, at, vocabulary::FL, low);
-    let high_start = put(out, low_end, b'/');
-    put_figures(out, high_start, high, 3)
-}
+    // `TOP` or `ABV`, and a flight level behind it.
+    fn flight_behind(&mut self, word: u64, n: u32)
+        ensures { Moved (Words (spell_code word ∷ flight_word n ∷ [])) self.old self.new }
+    {
+        self.fixed(word);
+        self.height(vocabulary::FL, n, FLIGHT_FIGURES);
+    }
 
-// `SFC/` and a number in so many figures, without the unit behind it.
-fn put_surface(out: &mut [u8], at: usize, n: u32, figures: u8) -> usize
-    ensures { Words (surface_word n figures ∷ []) at out.old result out.new }
-{
-    let front_end = put_fixed(out, at, vocabulary::SURFACE);
-    put_figures(out, front_end, n, figures)
-}
+    fn top_above(&mut self, n: u32)
+        ensures { Moved (Words (bytes "TOP" ∷ bytes "ABV" ∷ flight_word n ∷ [])) self.old self.new }
+    {
+        self.fixed(vocabulary::TOP);
+        self.flight_behind(vocabulary::ABV, n);
+    }
 
-fn put_metres(out: &mut [u8], at: usize, n: u32) -> usize
-    ensures { Words ((surface_word n 4 ++ bytes "M") ∷ []) at out.old result out.new }
-{
-    let number_end = put_surface(out, at, n, 4);
-    put(out, number_end, b'M')
-}
+    // Two flight levels with a `/` between, `FL` before the first alone.
+    fn band(&mut self, low: u32, high: u32)
+        ensures { Moved (Words (band_word low high ∷ [])) self.old self.new }
+    {
+        self.height(vocabulary::FL, low, FLIGHT_FIGURES);
+        self.byte(b'/');
+        self.figures(high, FLIGHT_FIGURES);
+    }
 
-fn put_feet(out: &mut [u8], at: usize, n: u32) -> usize
-    ensures { Words (feet_word n ∷ []) at out.old result out.new }
-{
-    let number_end = put_surface(out, at, n, feet_figures(n));
-    put_code(out, number_end, vocabulary::FT)
-}
+    fn metres(&mut self, n: u32)
+        ensures { Moved (Words ((surface_word n 4 ++ bytes "M") ∷ [])) self.old self.new }
+    {
+        self.height(vocabulary::SURFACE, n, METRES_FIGURES);
+        self.byte(b'M');
+    }
 
-pub(crate) fn put_level(out: &mut [u8], at: usize, level: Level) -> usize
-    ensures { Words (level_words level) at out.old result out.new }
-{
-    match level {
-        Level::NoLevel => at,
-        Level::Flight(n) => put_flight(out, at, vocabulary::FL, n),
-        Level::SurfaceFlight(n) => put_flight(out, at, vocabulary::SURFACE_FLIGHT, n),
-        Level::SurfaceMetres(n) => put_metres(out, at, n),
-        Level::SurfaceFeet(n) => put_feet(out, at, n),
-        Level::Band(low, high) => put_band(out, at, low, high),
-        Level::TopFlight(n) => put_flight_behind(out, at, vocabulary::TOP, n),
-        Level::AboveFlight(n) => put_flight_behind(out, at, vocabulary::ABV, n),
-        Level::TopAboveFlight(n) => put_top_above(out, at, n),
+    fn feet(&mut self, n: u32)
+        ensures { Moved (Words (feet_word n ∷ [])) self.old self.new }
+    {
+        self.height(vocabulary::SURFACE, n, feet_figures(n));
+        self.code(vocabulary::FT);
+    }
+
+    #[tactic(auto, using(crate::proofs::Moves::no_words), unfolding(levels::specs::Levels::level_words, levels::specs::Levels::spell_level_word, figures::specs::Codes::behind_one))]
+    pub(crate) fn level(&mut self, level: Level)
+        ensures { Moved (Words (level_words level)) self.old self.new }
+    {
+        match level {
+            Level::NoLevel => {}
+            Level::Flight(n) => self.height(vocabulary::FL, n, FLIGHT_FIGURES),
+            Level::SurfaceFlight(n) => self.height(vocabulary::SURFACE_FLIGHT, n, FLIGHT_FIGURES),
+            Level::SurfaceMetres(n) => self.metres(n),
+            Level::SurfaceFeet(n) => self.feet(n),
+            Level::Band(low, high) => self.band(low, high),
+            Level::TopFlight(n) => self.flight_behind(vocabulary::TOP, n),
+            Level::AboveFlight(n) => self.flight_behind(vocabulary::ABV, n),
+            Level::TopAboveFlight(n) => self.top_above(n),
+        }
     }
 }

@@ -2,4 +2,4 @@
 use Rattle.pens.proofs.+put_places.Given as goal
 
 abbrev pub decreases-put_places : goal.decreases-put_places
-decreases-put_places l = l.k
+decreases-put_places g l = l.k

@@ -40,4 +40,5 @@ returns-then-out-count c =
 pub returns : goal.returns
 returns c =
     let here = (goal.at.returns c).Else-bad in
-    all-written c.args.message _ (known-good here) (counted here) c.if-count-gt-MOST_BYTES.false c.if-out-count.false (paged here) c.put_all.ensures
+    all-written c.args.message _ c.args.out.now (known-good here) (counted here) c.if-count-gt-MOST_BYTES.false c.if-out-count.false (paged here)
+    c.copy_from_slice.ensures.after

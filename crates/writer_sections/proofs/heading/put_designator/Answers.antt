@@ -1,9 +1,0 @@
--- `put_designator` meets its contract: type, letters and figures, one behind the other.
-use Rattle.headings.specs.Headings.{spell_designator}
-use Rattle.pens.proofs.PenLaws.{then}
-use Rattle.writer_sections.proofs.Sentences.{renamed-then}
-use Rattle.writer_sections.proofs.heading.put_designator.Goals as goal
-
-pub returns : goal.returns
-unfolding spell_designator
-returns c = search (renamed-then, then)

@@ -1,9 +1,0 @@
--- `put_heading` meets its contract: its words, one behind the other.
-use Rattle.pens.proofs.PenLaws.{a-line}
-use Rattle.message.specs.Words.{heading_words}
-use Rattle.writer_sections.proofs.Sentences.{word}
-use Rattle.writer_sections.proofs.heading.put_heading.Goals as goal
-
-pub returns : goal.returns
-unfolding heading_words
-returns c = search (a-line, word)

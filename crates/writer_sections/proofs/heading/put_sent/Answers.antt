@@ -1,6 +1,0 @@
--- `put_sent` meets its contract: the group goes on from the space.
-use Rattle.writer_sections.proofs.Sentences.{spaced-word}
-use Rattle.writer_sections.proofs.heading.put_sent.Goals as goal
-
-pub returns : goal.returns
-returns c = search spaced-word

@@ -1,9 +1,0 @@
--- `put_entire` meets its contract: the word, and that of `entire_word`.
-use Rattle.figures.specs.Codes.{behind_one}
-use Rattle.pens.proofs.PenLaws.{renamed}
-use Rattle.writer_sections.proofs.Sentences.{word}
-use Rattle.writer_sections.proofs.location.put_entire.Goals as goal
-
-pub returns : goal.returns
-unfolding behind_one
-returns c = search (word, renamed)
