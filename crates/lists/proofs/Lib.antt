@@ -1,5 +1,6 @@
 pub mod Choice
 pub mod Lists
+pub mod Found
 pub mod Sweeps
 pub mod Parts
 pub mod Base
