@@ -9,8 +9,10 @@ use lib.Dec.{ltb}
 use lib.ListN.{length}
 use borrow.Author.Tests.{ltb-false}
 use Rattle.std.specs.Prelude.{Some, None}
+use Rattle.std.specs.Bool.{then_some}
 use Rattle.std.specs.List.{position, position_or_len, list_all}
 use Rattle.std.specs.Option.{unwrap_or}
+use Rattle.std.proofs.lemmas.Option.{same_Some, none-some}
 use Rattle.std.proofs.lemmas.List.Recursion.{is_position_or_len}
 use Rattle.lists.specs.Choice.{pick, both, found}
 use Rattle.lists.specs.Lists.{index_of, all_of}
@@ -24,6 +26,20 @@ pick-cond false x y = refl
 pub and-both : (a b : Bool) → (a && b) ≡ both a b
 and-both true b = refl
 and-both false b = refl
+
+-- what `then_some` answers where the test is that of the value
+pub then-found : {A : Type 0} (good : A → Bool) (v : A) → then_some (good v) v ≡ found good v
+then-found good v = by (good v) (λ t. rw t refl) (λ t. rw t refl)
+
+-- what is found passes the test, and where nothing is found it doesn't
+pub found-some : {A : Type 0} (good : A → Bool) (v : A) {x : A} → found good v ≡ Some x → (good x ≡ true) × (v ≡ x)
+found-some good v {x} e =
+    by (good v)
+    (λ t. let same : v ≡ x = same_Some v x (rw t at e) in (ap good (sym same) ∙ t, same))
+    (λ t. absurd (none-some x (rw t at e)))
+
+pub found-none : {A : Type 0} (good : A → Bool) (v : A) → found good v ≡ None → good v ≡ false
+found-none good v e = by (good v) (λ t. absurd (none-some v (sym (rw t at e)))) (λ t. t)
 
 module _ {A : Type 0} (f : A → Bool) where
   pub index-is : (xs : List A) → index_of f xs ≡ position_or_len f xs
