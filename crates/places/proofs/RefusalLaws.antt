@@ -6,7 +6,7 @@ use lib.Dec.{eqb}
 use Rattle.std.specs.Prelude.{Result, Ok, Err}
 use Rattle.lists.specs.Choice.{pick}
 use Rattle.places.specs.Claims.{claim_in}
-use Rattle.places.specs.Refusals.{number_of}
+use Rattle.places.specs.Refusals.{number_of, answer_of}
 use Rattle.places.specs.declared.Place.{Place}
 use Rattle.places.specs.declared.refusals.Refusal.{Refusal}
 use Rattle.places.specs.declared.refusals.Refusal.TheVariants.{BadRecord, Test, ClockOutOfRange, ClockGoesBack, NoStart, NoEnd, Ended, Held, Marked, Full, BadBoard}
@@ -56,3 +56,9 @@ claim-only (Ok p) (Ok q) e = ap (λ x. Ok x.place) e
 claim-only (Ok p) (Err f) e = absurd (number_some f (sym (ap (λ x. x.answer) e)))
 claim-only (Err f) (Ok q) e = absurd (number_some f (ap (λ x. x.answer) e))
 claim-only (Err f) (Err g) e = ap (λ x. Err x) (number-only (ap (λ x. x.answer) e))
+
+pub answer-only : (a b : Result (Unit {0}) Refusal) → answer_of a ≡ answer_of b → a ≡ b
+answer-only (Ok x) (Ok y) e = refl
+answer-only (Ok x) (Err f) e = absurd (number_some f (sym e))
+answer-only (Err f) (Ok y) e = absurd (number_some f e)
+answer-only (Err f) (Err g) e = ap (λ x. Err x) (number-only e)
