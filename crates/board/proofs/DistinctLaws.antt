@@ -1,5 +1,5 @@
 -- No identity is held twice: what that says of two places, and that it stays so where a place is set.
-use mathlib.Core.Bool.{Bool, true, false, not}
+use mathlib.Core.Bool.{true, false, not}
 use mathlib.Core.List.{List, [], ◌∷◌}
 use mathlib.Core.Path.{◌≡◌, ap}
 use Prim.Native.Nat.{ℕ, zero, suc, ◌<◌, suc-le-suc, zero-le}
@@ -12,14 +12,9 @@ use Rattle.lists.specs.Lists.{all_of}
 use Rattle.lists.proofs.Choice.{clash, both_left, both_right, both_true, either_left, either-right, either-cases}
 use Rattle.lists.proofs.Lists.{all-at, all-by, all_set}
 use Rattle.places.specs.Places.{same_identity, no_place, empty_place}
-use Rattle.places.specs.declared.Identity.{Identity}
 use Rattle.places.specs.declared.Place.{Place}
 use Rattle.places.proofs.HeldLaws.{same-identity-swap}
 use Rattle.board.specs.Boards.{differs, distinct}
-
--- a place of another identity
-abbrev pub apart : Identity → Place → Bool
-apart i q = not (same_identity i q.identity)
 
 -- Of two places the later one has another identity than a held earlier one.
 pub distinct-two : (ps : List Place) → distinct ps ≡ true → (k j : ℕ) → k < j → j < length ps → empty_place (get_or ps k no_place) ≡ false

@@ -1,3 +1,4 @@
+pub mod Mapped
 pub mod RefusalLaws
 pub mod BoardLaws
 pub mod SettleLaws

@@ -2,37 +2,30 @@
 #![tactic(auto)]
 
 ghost use Rattle.std.specs.Prelude.{◌≡◌};
+ghost use Rattle.places.specs.Refusals.{answer_of};
 ghost use Rattle.board.specs.Boards.{good_board, empty_board, refusal_at};
-ghost use Rattle.board.specs.Posts.{settled, post_of};
+ghost use Rattle.board.specs.Posts.{posted_on, post_of};
 
 mod goodness;
 mod settling;
 
 use goodness::{are_distinct, good_places, in_range};
-use lists::{both, either};
 use message::Record;
-use places::{Place, claim_of, no_place};
+use places::{NO_PLACE, Place, Refusal, claim_of};
 use settling::{drop_ended, spot_of};
 
 // The clock is that of the last accepted post, 0 before the first.
-#[derive(Clone, Copy)]
+#[derive(Clone, Copy, Debug, PartialEq, Eq)]
 pub struct Board {
     pub clock: u32,
     pub places: [Place; Board::PLACES],
 }
 
 // The refusal number, 0 for an accepted post, and the board as it is afterwards.
-#[derive(Clone, Copy)]
+#[derive(Clone, Copy, Debug, PartialEq, Eq)]
 pub struct Posted {
     pub answer: u8,
     pub board: Board,
-}
-
-// Where a place goes: a refusal number, or 0 and the place's number.
-#[derive(Clone, Copy)]
-struct Spot {
-    answer: u8,
-    at: usize,
 }
 
 impl Board {
@@ -47,84 +40,59 @@ impl Board {
     pub fn new() -> Board
         ensures { result ≡ empty_board }
     {
-        let none = no_place();
         Board {
             clock: 0,
-            places: [none; Board::PLACES],
+            places: [NO_PLACE; Board::PLACES],
         }
     }
 
+    #[tactic(auto, unfolding(crate::specs::Boards::good_board))]
     pub fn is_good(self) -> bool
         ensures { result ≡ good_board self }
     {
-        let clock = self.clock;
-        let places = self.places;
-        let timely = either(clock == 0, in_range(clock));
-        both(
-            timely,
-            both(good_places(clock, places), are_distinct(places)),
-        )
+        let timely = self.clock == 0 || in_range(self.clock);
+        timely && good_places(self.clock, self.places) && are_distinct(self.places)
     }
 
-    // 36, 16 or 17 where a call at the clock is refused for the board or the clock; else 0.
-    pub fn refusal_at(self, clock: u32) -> u8
-        ensures { result ≡ refusal_at self clock }
+    // Whether a call at the clock is refused for the board or the clock.
+    #[tactic(auto, unfolding(crate::specs::Boards::refusal_at))]
+    pub fn refusal_at(self, clock: u32) -> Result<(), Refusal>
+        ensures { answer_of result ≡ refusal_at self clock }
     {
         if !self.is_good() {
-            return 36;
+            return Err(Refusal::BadBoard);
         }
         if !in_range(clock) {
-            return 16;
+            return Err(Refusal::ClockOutOfRange);
         }
         if clock < self.clock {
-            return 17;
+            return Err(Refusal::ClockGoesBack);
         }
-        0
+        Ok(())
     }
 
-    // The board with a place settled on it.
-    fn settle(self, clock: u32, place: Place) -> Posted
-        ensures { result ≡ settled self clock place }
+    // The board with a message on it, or why it is refused.
+    fn accept(self, clock: u32, message: Record) -> Result<Board, Refusal>
+        ensures { posted_on self result ≡ post_of self clock message }
     {
-        let places = self.places;
-        let mut left = drop_ended(clock, places);
-        let spot = spot_of(left, place);
-        if spot.answer != 0 {
-            return Posted {
-                answer: spot.answer,
-                board: self,
-            };
-        }
-        let at = spot.at;
-        left[at] = place;
-        Posted {
-            answer: 0,
-            board: Board {
-                clock,
-                places: left,
-            },
-        }
+        self.refusal_at(clock)?;
+        let place = claim_of(clock, message)?;
+        let mut places = drop_ended(clock, self.places);
+        let at = spot_of(places, place)?;
+        places[at] = place;
+        Ok(Board { clock, places })
     }
 
     // A message given to the board at a clock.
     pub fn post(self, clock: u32, message: Record) -> Posted
         ensures { result ≡ post_of self clock message }
     {
-        let number = self.refusal_at(clock);
-        if number != 0 {
-            return Posted {
-                answer: number,
+        match self.accept(clock, message) {
+            Ok(board) => Posted { answer: 0, board },
+            Err(refusal) => Posted {
+                answer: refusal.number(),
                 board: self,
-            };
+            },
         }
-        let claim = claim_of(clock, message);
-        if claim.answer != 0 {
-            return Posted {
-                answer: claim.answer,
-                board: self,
-            };
-        }
-        let place = claim.place;
-        self.settle(clock, place)
     }
 }

@@ -1,31 +1,42 @@
 -- One day: the ways in which it has no instant of the stretch with the group, and the one in which it has.
-use mathlib.Core.Path.{◌≡◌, sym, ap, ◌∙◌}
+use mathlib.Core.Bool.{true, false}
+use mathlib.Core.Path.{◌≡◌, refl, ap, ◌∙◌}
 use Prim.Native.Nat.{ℕ, ◌+◌, ◌-◌, ◌/◌, ◌%◌, ◌≤◌, ◌<◌}
 use native.Mathlib.Nat.{add-zero}
 use native.Mathlib.Omega.{arith}
-use borrow.Author.Tests.{lt-ltb, le-ltb}
+use borrow.Author.Tests.{lt-ltb}
+use Rattle.std.specs.Prelude.{Option, Some, None}
+use Rattle.std.specs.Option.{MatchOption, option_or}
+use Rattle.lists.specs.Choice.{found}
+use Rattle.lists.proofs.Choice.{by}
 use Rattle.groups.specs.declared.Group.{Group}
-use Rattle.calendar.specs.Gregorian.{first_day, days, never, Falls}
-use Rattle.calendar.specs.Instants.{minute_on, on_day, instant_in}
+use Rattle.calendar.specs.Gregorian.{first_day, days, never, is_instant, Falls}
+use Rattle.calendar.specs.Instants.{minute_on, on_day, or_else, instant_in}
 use Rattle.calendar.specs.Meanings.{Has}
 use Rattle.calendar.proofs.MonthLaws.{falls-only}
 use Rattle.calendar.proofs.CalendarLaws.{In, on-there, on_none}
 
 module _ (g : Group) (low high day : ℕ) where
-  pub none-beyond : days ≤ day → never ≡ on_day g low high day
-  none-beyond h = sym (on_none g low high day (λ (i : In g low high (minute_on g day)). omega (arith, i.has.instant)))
+  abbrev there : Option ℕ
+  there = found is_instant (on_day g low high day)
 
-  pub none-hour : 23 < g.hour → never ≡ on_day g low high day
-  none-hour h = sym (on_none g low high day (λ (i : In g low high (minute_on g day)). omega (arith, i.has.hour)))
+  none : (In g low high (minute_on g day) → ⊥) → None ≡ there
+  none other = rw (on_none g low high day other) refl
 
-  pub none-minute : 59 < g.minute → never ≡ on_day g low high day
-  none-minute h = sym (on_none g low high day (λ (i : In g low high (minute_on g day)). omega (arith, i.has.minute)))
+  pub none-beyond : days ≤ day → None ≡ there
+  none-beyond h = none (λ (i : In g low high (minute_on g day)). omega (arith, i.has.instant))
 
-  pub none_before : minute_on g day < low → never ≡ on_day g low high day
-  none_before h = sym (on_none g low high day (λ (i : In g low high (minute_on g day)). omega (arith, i.from)))
+  pub none-hour : 23 < g.hour → None ≡ there
+  none-hour h = none (λ (i : In g low high (minute_on g day)). omega (arith, i.has.hour))
 
-  pub none_after : high ≤ minute_on g day → never ≡ on_day g low high day
-  none_after h = sym (on_none g low high day (λ (i : In g low high (minute_on g day)). omega (arith, i.until)))
+  pub none-minute : 59 < g.minute → None ≡ there
+  none-minute h = none (λ (i : In g low high (minute_on g day)). omega (arith, i.has.minute))
+
+  pub none_before : minute_on g day < low → None ≡ there
+  none_before h = none (λ (i : In g low high (minute_on g day)). omega (arith, i.from))
+
+  pub none_after : high ≤ minute_on g day → None ≡ there
+  none_after h = none (λ (i : In g low high (minute_on g day)). omega (arith, i.until))
 
   module _ (hour : g.hour ≤ 23) (minute : g.minute ≤ 59) where
     its-day : minute_on g day / 1440 ≡ day
@@ -38,15 +49,15 @@ module _ (g : Group) (low high day : ℕ) where
     its-minute = omega arith
 
     module _ (month first : ℕ) (falls : Falls day month) (is-first : first ≡ first_day month) where
-      pub none-date : (day - first + 1 ≡ g.day → ⊥) → never ≡ on_day g low high day
+      pub none-date : (day - first + 1 ≡ g.day → ⊥) → None ≡ there
       none-date other =
-          sym (on_none g low high day
+          none
           (λ (i : In g low high (minute_on g day)).
-          let there : Falls day i.has.month = rw its-day at i.has.falls in
-          let same : first_day i.has.month ≡ first_day month = ap first_day (falls-only there falls) in
-          other (omega (arith, its-day, i.has.day, there.from))))
+          let on-it : Falls day i.has.month = rw its-day at i.has.falls in
+          let same : first_day i.has.month ≡ first_day month = ap first_day (falls-only on-it falls) in
+          other (omega (arith, its-day, i.has.day, on-it.from)))
 
-      pub one-there : day < days → day - first + 1 ≡ g.day → low ≤ minute_on g day → minute_on g day < high → minute_on g day ≡ on_day g low high day
+      pub one-there : day < days → day - first + 1 ≡ g.day → low ≤ minute_on g day → minute_on g day < high → Some (minute_on g day) ≡ there
       one-there within date from until =
           let has : Has g (minute_on g day) =
           record {
@@ -57,23 +68,37 @@ module _ (g : Group) (low high day : ℕ) where
             hour = its-hour;
             minute = its-minute;
           } in
-          sym (on-there g low high day (record { has = has; from = from; until = until }))
+          rw (on-there g low high day (record { has = has; from = from; until = until }), lt-ltb (minute_on g day) never has.instant) refl
+
+-- the value that `or_else` answers, P being what its closure promises
+or-else-is : {P : Type 0} (a b r : Option ℕ) → MatchOption a P (λ x. r ≡ Some x) → (P → r ≡ b) → r ≡ option_or a b
+or-else-is None b r m f = f m
+or-else-is (Some x) b r m f = m
 
 -- Three days: what the first that has one gives.
 
-module _ (g : Group) (low high here : ℕ) (is-here : here ≡ on_day g low high (low / 1440 + 0)) where
-  first-day-is : here ≡ on_day g low high (low / 1440)
-  first-day-is = is-here ∙ ap (on_day g low high) (add-zero (low / 1440))
+found-three : (a b c : ℕ) → option_or (option_or (found is_instant a) (found is_instant b)) (found is_instant c) ≡ found is_instant (or_else a (or_else b c))
+found-three a b c =
+    by (is_instant a)
+    (λ (t : is_instant a ≡ true). rw (t, t) refl)
+    (λ (t : is_instant a ≡ false).
+    by (is_instant b)
+    (λ (u : is_instant b ≡ true). rw (t, u, u) refl)
+    (λ (u : is_instant b ≡ false). rw (t, u) refl))
 
-  pub in-first : here < never → here ≡ instant_in g low high
+module _ (g : Group) (low high : ℕ) where
+  abbrev on : ℕ → Option ℕ
+  on day = found is_instant (on_day g low high day)
+
+  pub in-days : {P Q : Type 0} (here two three : Option ℕ)
+      → here ≡ on (low / 1440 + 0)
+      → MatchOption here P (λ x. two ≡ Some x) → (P → two ≡ on (low / 1440 + 1))
+      → MatchOption two Q (λ x. three ≡ Some x) → (Q → three ≡ on (low / 1440 + 2))
+      → three ≡ found is_instant (instant_in g low high)
   unfolding instant_in
-  in-first h = rw (← first-day-is, lt-ltb here never h)
-
-  module _ (left : never ≤ here) (next : ℕ) (is-next : next ≡ on_day g low high (low / 1440 + 1)) where
-    pub in-second : next < never → next ≡ instant_in g low high
-    unfolding instant_in
-    in-second h = rw (← first-day-is, le-ltb here never left, ← is-next, lt-ltb next never h)
-
-    pub in-third : never ≤ next → (last : ℕ) → last ≡ on_day g low high (low / 1440 + 2) → last ≡ instant_in g low high
-    unfolding instant_in
-    in-third h last is_last = rw (← first-day-is, le-ltb here never left, ← is-next, le-ltb next never h) is_last
+  in-days here two three e m p n q =
+      let a : here ≡ on (low / 1440) = e ∙ ap on (add-zero (low / 1440)) in
+      or-else-is two (on (low / 1440 + 2)) three n q
+      ∙ ap (λ o. option_or o (on (low / 1440 + 2))) (or-else-is here (on (low / 1440 + 1)) two m p)
+      ∙ ap (λ o. option_or (option_or o (on (low / 1440 + 1))) (on (low / 1440 + 2))) a
+      ∙ found-three (on_day g low high (low / 1440)) (on_day g low high (low / 1440 + 1)) (on_day g low high (low / 1440 + 2))

@@ -1,7 +1,7 @@
 -- 01, "Time is whole minutes from 2000-01-01 0000Z, by the Gregorian calendar to the end of 2099; there is no instant before or after."
 -- Days are counted from 2000-01-01 and months from January 2000, both from 0.
 -- Believed.
-use Rattle.std.specs.Prelude.{Bool, not, List, [], ◌∷◌, ℕ, zero, suc, ◌+◌, ◌/◌, ◌%◌, ◌≤◌, ◌<◌, eqb, get_or}
+use Rattle.std.specs.Prelude.{Bool, not, List, [], ◌∷◌, ℕ, zero, suc, ◌+◌, ◌/◌, ◌%◌, ◌≤◌, ◌<◌, ltb, eqb, get_or}
 use Rattle.lists.specs.Choice.{pick, both, either}
 
 -- the Gregorian leap years
@@ -32,6 +32,9 @@ days = 36525
 -- the minute after the last of 2099, which is no instant: it stands for none
 abbrev pub never : ℕ
 never = 52596000
+
+abbrev pub is_instant : ℕ → Bool
+is_instant t = ltb t never
 
 -- a day falls in a month
 pub record Falls (day month : ℕ) : Type 0 where

@@ -2,25 +2,12 @@
 ghost use Rattle.std.specs.Prelude.{◌<◌};
 ghost use Rattle.calendar.specs.Gregorian.{Falls};
 
-use crate::table::first_day;
+use crate::table::FIRST_DAYS;
 
-// How many months, January 2000 to December 2099.
-const MONTHS: usize = 1200;
-
-// By halving: the day is from the first of `low` on and before the first of `high`.
+// The last month that has begun by the day.
 pub(crate) fn month_of(day: u64) -> usize
     requires { day < 36525 }
     ensures { Falls day result }
 {
-    let mut low = 0;
-    let mut high = MONTHS;
-    while 1 < high - low {
-        let middle = low + (high - low) / 2;
-        if first_day(middle) <= day {
-            low = middle;
-        } else {
-            high = middle;
-        }
-    }
-    low
+    FIRST_DAYS.partition_point(|first| *first <= day) - 1
 }

@@ -3,7 +3,7 @@ ghost use Rattle.std.specs.Prelude.{◌≡◌, ◌<◌};
 ghost use Rattle.calendar.specs.Gregorian.{first_day};
 
 // The day number of the first of each month, January 2000 to December 2099; 2000-01-01 is day 0.
-const FIRST_DAYS: [u64; 1200] = [
+pub(crate) const FIRST_DAYS: [u64; 1200] = [
     0, 31, 60, 91, 121, 152, 182, 213, 244, 274, 305, 335, 366, 397, 425, 456, 486, 517, 547, 578,
     609, 639, 670, 700, 731, 762, 790, 821, 851, 882, 912, 943, 974, 1004, 1035, 1065, 1096, 1127,
     1155, 1186, 1216, 1247, 1277, 1308, 1339, 1369, 1400, 1430, 1461, 1492, 1521, 1552, 1582, 1613,

@@ -12,8 +12,7 @@ use Rattle.std.specs.Prelude.{Option, Some, None}
 use Rattle.lists.specs.Choice.{found}
 use Rattle.lists.specs.Lists.{part}
 use Rattle.lists.proofs.Choice.{by}
-use Rattle.lists.proofs.Found.{found-none}
-use Rattle.lists.proofs.Words.{found-is, found-out}
+use Rattle.lists.proofs.Found.{found-none, found-is, found-out}
 use Rattle.figures.specs.Figures.{two_of, three_of}
 use Rattle.figures.specs.Reads.{if_good}
 use Rattle.coordinates.specs.Coordinates.{Axis, coordinate_of, good_coordinate, no_coordinate}

@@ -18,7 +18,7 @@ use Rattle.lists.specs.Base.{places, worth_after}
 use Rattle.lists.specs.Text.{bytes}
 use Rattle.lists.proofs.Choice.{by, both_left, both_right, both_true}
 use Rattle.lists.proofs.Lists.{all_append, length_part}
-use Rattle.lists.proofs.Words.{all-list}
+use Rattle.lists.proofs.Library.{all-list}
 use Rattle.lists.proofs.Parts.{part-whole, part-here, part-past, at-past, part_join, part-cons, marked, marked-long, marked-at}
 use Rattle.words.specs.Bytes.{letter, allowed, plain}
 use Rattle.words.specs.Words.{plain_word}

@@ -2,12 +2,12 @@
 -- buffer; what it lists is what is in force on a good board. What is left for `list`: one law for each reply.
 use mathlib.Core.Bool.{true, false}
 use mathlib.Core.List.{List, ◌++◌}
-use mathlib.Core.Path.{◌≡◌, refl, subst, sym, ◌∙◌}
+use mathlib.Core.Path.{◌≡◌, refl, ap, ◌∙◌}
 use Prim.Native.Nat.{ℕ, ◌+◌, ◌*◌, ◌≤◌, ◌<◌}
 use native.Mathlib.Omega.{arith}
 use lib.Dec.{ltb, eqb}
 use lib.ListN.{length, drop}
-use borrow.Author.Tests.{ltb-false, lt-ltb, le-ltb, eqb-true, eqb-false, eq-eqb, ne_eqb}
+use borrow.Author.Tests.{ltb-false, lt-ltb, le-ltb, eqb-true, eqb-false, ne_eqb}
 use Rattle.lists.proofs.Choice.{by}
 use Rattle.places.specs.declared.Place.{Place}
 use Rattle.board.specs.Boards.{refusal_at}
@@ -15,11 +15,10 @@ use Rattle.board.specs.declared.Board.{Board}
 use Rattle.board.proofs.RefusalLaws.{unrefused-parts}
 use Rattle.board.proofs.Invariant.{board-parts}
 use Rattle.listing.specs.Rows.{IsRows, rows_of}
-use Rattle.listing.specs.Holding.{rows_in, HoldsRows, PutsListing}
+use Rattle.listing.specs.Holding.{PutsListing}
 use Rattle.pens.specs.Outcomes.{wrote}
 use Rattle.listing.specs.Answers.{listing_of, list_of}
 use Rattle.pens.specs.declared.Written.{Written}
-use Rattle.listing.specs.declared.rows.Rows.{Rows}
 use Rattle.listing.proofs.RowLaws.{rows_are, listing-length, listing-most}
 
 -- What the definition says.
@@ -91,17 +90,17 @@ unfolding list_of
 board-refused b time r buffer number e n w =
     rw (ne_eqb (refusal_at b time) 0 (λ (z : refusal_at b time ≡ 0). n (e ∙ z))) (wrote-is r buffer (refusal_at b time) 0 (w.0 ∙ e) w.1)
 
--- how long the listing is, by the rows that were counted
-counted-bytes : (time : ℕ) (ps : List Place) (rows : Rows) → HoldsRows (rows_of time ps) rows → length (listing_of time ps) ≡ 5 + rows.count * 17
-counted-bytes time ps rows held = omega (arith, listing-length time ps, held.counted)
+-- how long the listing is, by the rows that were found
+found-bytes : (time : ℕ) (ps : List Place) {rows : List Place} → rows ≡ rows_of time ps → length (listing_of time ps) ≡ 5 + length rows * 17
+found-bytes time ps e = omega (arith, listing-length time ps, ap length e)
 
-pub no_room : (b : Board) (time : ℕ) (r : Written) (buffer : List ℕ) (rows : Rows) (number : ℕ) → number ≡ refusal_at b time → number ≡ 0
-    → HoldsRows (rows_of time b.places) rows → length buffer < 5 + rows.count * 17 → (r.number ≡ 14) × (r.count ≡ 0)
+pub no_room : (b : Board) (time : ℕ) (r : Written) (buffer : List ℕ) {rows : List Place} → 0 ≡ refusal_at b time
+    → rows ≡ rows_of time b.places → length buffer < 5 + length rows * 17 → (r.number ≡ 14) × (r.count ≡ 0)
     → wrote r buffer ≡ list_of b time buffer
 unfolding list_of
-no_room b time r buffer rows number e z held h w =
-    let long : length buffer < length (listing_of time b.places) = omega (arith, counted-bytes time b.places rows held) in
-    rw (eq-eqb (refusal_at b time) 0 (sym e ∙ z), lt-ltb (length buffer) (length (listing_of time b.places)) long) (wrote-is r buffer 14 0 w.0 w.1)
+no_room b time r buffer z e h w =
+    let long : length buffer < length (listing_of time b.places) = omega (arith, found-bytes time b.places e) in
+    rw (← z, lt-ltb (length buffer) (length (listing_of time b.places)) long) (wrote-is r buffer 14 0 w.0 w.1)
 
 -- all rows are on the page
 listed-all : (time : ℕ) (ps : List Place) {page after : List ℕ} {n : ℕ} → PutsListing time (rows_of time ps) page n after
@@ -109,12 +108,12 @@ listed-all : (time : ℕ) (ps : List Place) {page after : List ℕ} {n : ℕ} �
 unfolding listing_of
 listed-all time ps l = (l.counted, l.leaves)
 
-pub all_listed : (b : Board) (time : ℕ) (buffer : List ℕ) (rows : Rows) (number : ℕ) {count : ℕ} {after : List ℕ} → number ≡ refusal_at b time
-    → number ≡ 0 → HoldsRows (rows_of time b.places) rows → 5 + rows.count * 17 ≤ length buffer → PutsListing time (rows_in rows) buffer count after
+pub all_listed : (b : Board) (time : ℕ) (buffer : List ℕ) {rows : List Place} {count : ℕ} {after : List ℕ} → 0 ≡ refusal_at b time
+    → rows ≡ rows_of time b.places → 5 + length rows * 17 ≤ length buffer → PutsListing time rows buffer count after
     → wrote (record { number = 0; count = count }) after ≡ list_of b time buffer
 unfolding list_of
-all_listed b time buffer rows number {count} {after} e z held h l =
-    let fits : length (listing_of time b.places) ≤ length buffer = omega (arith, counted-bytes time b.places rows held) in
-    let all = listed-all time b.places (subst (λ (x : List Place). PutsListing time x buffer count after) held.says l) in
-    rw (eq-eqb (refusal_at b time) 0 (sym e ∙ z), le-ltb (length buffer) (length (listing_of time b.places)) fits)
+all_listed b time buffer {rows} {count} {after} z e h l =
+    let fits : length (listing_of time b.places) ≤ length buffer = omega (arith, found-bytes time b.places e) in
+    let all = listed-all time b.places (rw e at l) in
+    rw (← z, le-ltb (length buffer) (length (listing_of time b.places)) fits)
     (λ i. record { number = 0; count = all.0 i; buffer = all.1 i })

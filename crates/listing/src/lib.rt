@@ -4,7 +4,7 @@
 ghost use Rattle.std.specs.Prelude.{◌≡◌, ◌+◌, ◌*◌, ◌≤◌, length};
 ghost use Rattle.pens.specs.Outcomes.{wrote};
 ghost use Rattle.pens.specs.Pens.{Puts};
-ghost use Rattle.listing.specs.Holding.{rows_in, PutsListing};
+ghost use Rattle.listing.specs.Holding.{PutsListing};
 ghost use Rattle.listing.specs.Listings.{time_record, correction_byte, message_record};
 ghost use Rattle.listing.specs.Answers.{list_of};
 
@@ -14,7 +14,7 @@ mod rows;
 use board::Board;
 use pens::{Written, put, put_big_endian, refused};
 use places::Place;
-use rows::{Rows, rows_at};
+use rows::rows_at;
 
 fn put_time(out: &mut [u8], time: u32) -> usize
     ensures { Puts (time_record time) 0 out.old result out.new }
@@ -26,10 +26,7 @@ fn put_time(out: &mut [u8], time: u32) -> usize
 fn correction_byte(c: u8) -> u8
     ensures { result ≡ correction_byte c }
 {
-    if c == 0 {
-        return b' ';
-    }
-    c
+    if c == 0 { b' ' } else { c }
 }
 
 // The record of one message, at the front of what is lent.
@@ -46,18 +43,13 @@ fn put_record(out: &mut [u8], p: Place) -> usize
 }
 
 // The whole listing, for which there is room. Each record goes in from the place where the one before it ended.
-fn put_listing(out: &mut [u8], time: u32, rows: Rows) -> usize
-    requires { (rows.count ≤ 64) × (5 + rows.count * 17 ≤ length out.old) }
-    ensures { PutsListing time (rows_in rows) out.old result out.new }
+fn put_listing(out: &mut [u8], time: u32, rows: &[Place]) -> usize
+    requires { 5 + length rows.now * 17 ≤ length out.old }
+    ensures { PutsListing time rows.now out.old result out.new }
 {
-    let places = rows.places;
-    let count = rows.count;
     let mut at = put_time(out, time);
-    let mut i = 0;
-    while i < count {
-        let p = places[i];
-        at += put_record(&mut out[at..], p);
-        i += 1;
+    for p in rows {
+        at += put_record(&mut out[at..], *p);
     }
     at
 }
@@ -66,13 +58,12 @@ fn put_listing(out: &mut [u8], time: u32, rows: Rows) -> usize
 pub fn list(board: Board, time: u32, out: &mut [u8]) -> Written
     ensures { wrote result out.new ≡ list_of board time out.old }
 {
-    let number = board.refusal_at(time);
-    if number != 0 {
-        return refused(number);
+    if let Err(refusal) = board.refusal_at(time) {
+        return refused(refusal.number());
     }
-    let places = board.places;
-    let rows = rows_at(time, places);
-    if out.len() < 5 + rows.count * 17 {
+    let found = rows_at(time, board.places);
+    let rows = found.as_slice();
+    if out.len() < 5 + rows.len() * 17 {
         return refused(14);
     }
     let count = put_listing(out, time, rows);

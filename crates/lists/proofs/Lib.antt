@@ -1,10 +1,9 @@
 pub mod Choice
 pub mod Lists
+pub mod Found
+pub mod Library
 pub mod Sweeps
 pub mod Parts
 pub mod Base
 pub mod Counting
-pub mod Words
-pub mod Found
 pub mod Determined
-pub mod Library

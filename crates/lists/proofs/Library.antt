@@ -1,45 +1,73 @@
--- The library's words for tests and searches are our definitions: so a chain of iterators, or a derived `==`, gives what a definition says.
-use mathlib.Core.Bool.{Bool, true, false, ◌&&◌, cond}
+-- Our words and the library's are the same: so what a chain of iterators, or a comparison of slices and arrays, promises is what our definitions say.
+use mathlib.Core.Bool.{Bool, true, false, ◌&&◌, ◌||◌}
 use mathlib.Core.List.{List, [], ◌∷◌}
-use mathlib.Core.Path.{◌≡◌, refl, ◌∙◌}
-use Prim.Native.Nat.{ℕ, suc}
-use native.Mathlib.Nat.{zero-add, suc-add}
-use lib.Dec.{eqb}
+use mathlib.Core.Path.{◌≡◌, refl, ap, sym, ◌∙◌}
+use Prim.Native.Nat.{ℕ}
+use native.Mathlib.Omega.{arith}
+use lib.Dec.{eqb, ltb}
 use lib.ListN.{length, replicate}
 use lib.Pointwise.{pointwise, pointwise_long}
-use borrow.Author.Tests.{eqb-true, eqb-false}
+use borrow.Author.Tests.{eqb-true, eqb-false, ltb-false}
 use Rattle.std.specs.List.{list_all, position_or_len}
+use Rattle.std.specs.Option.{unwrap_or}
+use Rattle.std.specs.Prelude.{position, Some, None}
 use Rattle.std.proofs.lemmas.List.{length-replicate}
-use Rattle.std.proofs.lemmas.List.Recursion.{is_position_or_len}
-use Rattle.lists.specs.Choice.{pick, both}
-use Rattle.lists.specs.Lists.{index_of, all_of}
+use Rattle.lists.specs.Choice.{both, either, found}
+use Rattle.lists.specs.Lists.{index_of, all_of, same}
 use Rattle.lists.proofs.Choice.{by}
+use Rattle.lists.proofs.Lists.{index-within}
 
-pub and-both : (a b : Bool) → (a && b) ≡ both a b
-and-both true b = refl
-and-both false b = refl
+-- The connectives.
+
+pub both-and : (a b : Bool) → both a b ≡ (a && b)
+both-and true b = refl
+both-and false b = refl
 
 pub and_both : {a b c d : Bool} → a ≡ c → b ≡ d → (a && b) ≡ both c d
-and_both {a} {b} p q = and-both a b ∙ rw (p, q)
+and_both {a} {b} p q = sym (both-and a b) ∙ rw (p, q)
 
--- `all`
+pub either_or : (a b : Bool) → either a b ≡ (a || b)
+either_or true b = refl
+either_or false b = refl
 
-pub all_of_list : {A : Type 0} (f : A → Bool) (xs : List A) → all_of f xs ≡ list_all f xs
-unfolding all_of
-all_of_list f [] = refl
-all_of_list f (x ∷ xs) = rw (all_of_list f xs, and-both (f x) (list_all f xs))
+-- Finding.
 
--- `position`
+module _ {A : Type 0} (f : A → Bool) where
+  pub index-position : (xs : List A) → index_of f xs ≡ position_or_len f xs
+  unfolding index_of
+  index-position [] = refl
+  index-position (x ∷ xs) = by (f x) (λ e. rw e) (λ e. rw (e, index-position xs) (omega arith))
 
-pick-cond : {A : Type 0} (b : Bool) (x y : A) → pick b x y ≡ cond b x y
-pick-cond true x y = refl
-pick-cond false x y = refl
+  -- what `position` finds is the place of the first that passes, where one does, …
+  pub position-found : (xs : List A) → position f xs ≡ found (λ i. ltb i (length xs)) (index_of f xs)
+  position-found xs = rw (index-position xs) (by (ltb (position_or_len f xs) (length xs)) (λ e. rw e) (λ e. rw e))
 
-pub index_of_position : {A : Type 0} (f : A → Bool) (xs : List A) → index_of f xs ≡ position_or_len f xs
-unfolding index_of
-index_of_position f xs = is_position_or_len (index_of f) f refl (λ y ys. pick-cond (f y) 0 (suc (index_of f ys)) ∙ rw (suc-add 0 (index_of f ys), zero-add (index_of f ys))) xs
+  -- … and the length stands in where none does
+  pub position-or-length : (xs : List A) → unwrap_or (position f xs) (length xs) ≡ index_of f xs
+  position-or-length xs =
+      rw (position-found xs) (by (ltb (index_of f xs) (length xs))
+      (λ t. rw t refl)
+      (λ t. rw t (omega (arith, ltb-false (index_of f xs) (length xs) t, index-within f xs))))
 
--- `==` of an array and of one value so many times
+  -- Testing all.
+  pub all-list : (xs : List A) → all_of f xs ≡ list_all f xs
+  unfolding all_of
+  all-list [] = refl
+  all-list (x ∷ xs) = both-and (f x) (all_of f xs) ∙ ap (λ (b : Bool). f x && b) (all-list xs)
+
+-- Sameness: `==` of two slices of numbers, …
+
+pub same-pointwise : (xs ys : List ℕ) → same xs ys ≡ pointwise eqb xs ys
+unfolding same
+same-pointwise [] [] = refl
+same-pointwise [] (y ∷ ys) = refl
+same-pointwise (x ∷ xs) [] = refl
+same-pointwise (x ∷ xs) (y ∷ ys) = both-and (eqb x y) (same xs ys) ∙ ap (λ (b : Bool). eqb x y && b) (same-pointwise xs ys)
+
+-- for a function that compares slices, to name in its attribute
+pub ruleset sames = (same-pointwise)
+
+-- … and of an array and of one value so many times
 
 module _ {A : Type 0} (e : A → A → Bool) (f : A → Bool) (d : A) (is : (x : A) → e x d ≡ f x) where
   each : (xs : List A) → pointwise e xs (replicate (length xs) d) ≡ all_of f xs

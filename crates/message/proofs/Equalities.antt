@@ -7,7 +7,7 @@ use borrow.Author.Tests.{eqb-true}
 use Rattle.std.proofs.lemmas.Bool.{and_right}
 use Rattle.lists.proofs.Choice.{by, both-unit}
 use borrow.Author.Rules.{rules}
-use Rattle.lists.proofs.Library.{and-both, and_both, pointwise_all}
+use Rattle.lists.proofs.Library.{both-and, and_both, pointwise_all}
 use Rattle.coordinates.specs.Coordinates.{empty_coordinate, no_coordinate}
 use Rattle.coordinates.specs.Points.{empty_point, no_point}
 use Rattle.coordinates.specs.declared.Coordinate.{Coordinate}
@@ -36,7 +36,7 @@ name_empty n =
     by (eqb n.count 0)
     (λ t.
     let none : n.count ≡ 0 = eqb-true n.count 0 t in
-    and-both (pointwise eqb n.bytes no_name.bytes) (eqb n.count 0) ∙ rw (pointwise_all eqb zero_byte 0 (λ x. refl) n.bytes name_bytes, t, none) (both-unit _))
+    sym (both-and (pointwise eqb n.bytes no_name.bytes) (eqb n.count 0)) ∙ rw (pointwise_all eqb zero_byte 0 (λ x. refl) n.bytes name_bytes, t, none) (both-unit _))
     (λ z. rw z (and_right (pointwise eqb n.bytes no_name.bytes) false refl))
 
 pub volcano_empty : (v : Volcano) → (volcano_eq.ghosts).eq v no_volcano ≡ empty_volcano v

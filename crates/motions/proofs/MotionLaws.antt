@@ -14,7 +14,7 @@ use Rattle.lists.specs.Choice.{pick, found}
 use Rattle.lists.specs.Lists.{index_of, all_of, part, same}
 use Rattle.lists.proofs.Choice.{by, clash, both_left, both_right, both_true, both-false-right}
 use Rattle.lists.proofs.Lists.{all-at, all_append, length_part}
-use Rattle.lists.proofs.Words.{position-found}
+use Rattle.lists.proofs.Library.{position-found}
 use Rattle.words.specs.Bytes.{between, allowed, plain}
 use Rattle.words.specs.Words.{run_of, plain_word}
 use Rattle.figures.specs.Figures.{two_of, in_figures}

@@ -17,7 +17,7 @@ use Rattle.lists.specs.Lists.{index_of, all_of, same}
 use Rattle.lists.specs.Text.{bytes}
 use Rattle.lists.proofs.Choice.{by, clash, both-unit, both_left, both_right, both_true, either-cases}
 use Rattle.lists.proofs.Lists.{all_append, all-weaken}
-use Rattle.lists.proofs.Words.{all-list}
+use Rattle.lists.proofs.Library.{all-list}
 use Rattle.words.specs.Bytes.{letter, solid, allowed, plain}
 use Rattle.words.specs.Words.{plain_word, line}
 use Rattle.words.proofs.Words.{run-all}

@@ -22,11 +22,10 @@ use Rattle.calendar.specs.Instants.{end_of, target_of}
 use Rattle.calendar.proofs.CalendarLaws.{end-bound, end-within, target-bound, target-within}
 use Rattle.places.specs.Padded.{held_sequence, padded_of}
 use Rattle.places.specs.Places.{held_correction, held_place}
-use Rattle.places.specs.Claims.{identity_of, report_place, target_place, ending, cancels, timed, is_test, start_at, end_at, claim_of}
-use Rattle.places.specs.declared.Claim.{Claim}
+use Rattle.places.specs.Claims.{Claim, identity_of, report_place, target_place, ending, cancels, timed, is_test, start_at, end_at, claim_of}
 use Rattle.places.specs.declared.Place.{Place}
 use Rattle.places.proofs.PaddedLaws.{padded-held}
-use Rattle.places.proofs.ClaimReturns.{named-good, own-good}
+use Rattle.places.proofs.ClaimReturns.{named_good, own_good}
 use Rattle.places.proofs.HeldLaws.{identity-held}
 
 -- What a message claims is held.
@@ -46,7 +45,7 @@ report-held clock r start g n l =
     let early : end < never = omega (arith, n, end-bound r.heading.designator.kind start r.line.valid.to) in
     let w = end-within r.heading.designator.kind start r.line.valid.to early in
     both_true
-    (identity-held clock (identity_of r r.line.sequence start end) (record { formed = record-formed r r.line.sequence g (own-good r g); starts = w.0; short = w.1; lasts = l; timely = early }))
+    (identity-held clock (identity_of r r.line.sequence start end) (record { formed = record-formed r r.line.sequence g (own_good r g); starts = w.0; short = w.1; lasts = l; timely = early }))
     (heading-parts r.heading (good-parts r g).heading).correction
 
 target-held : (clock : ℕ) (r : Record) (s : Sequence) (from : Group) (end : ℕ) → good r ≡ true → good_sequence s ≡ true → end < never
@@ -78,7 +77,7 @@ form-holds clock r g n (Cancellation s from) e =
     by (eqb (target_of r.heading.designator.kind (end_at clock r) from) never)
     (λ t. rw t (λ z. absurd (omega (arith, z))))
     (λ f. rw f (ending-holds clock (end_at clock r) (target_place r s (target_of r.heading.designator.kind (end_at clock r) from) (end_at clock r)) (λ l.
-    target-held clock r s from (end_at clock r) g (named-good r g e) (omega (arith, n, end-bound r.heading.designator.kind (start_at clock r) r.line.valid.to))
+    target-held clock r s from (end_at clock r) g (named_good r g e) (omega (arith, n, end-bound r.heading.designator.kind (start_at clock r) r.line.valid.to))
     (eqb-false (target_of r.heading.designator.kind (end_at clock r) from) never f) l)))
 form-holds clock r g n Reported e =
     ending-holds clock (end_at clock r) (report_place r (start_at clock r) (end_at clock r)) (report-held clock r (start_at clock r) g n)

@@ -16,6 +16,7 @@ use Rattle.places.specs.Padded.{held_sequence}
 use Rattle.places.specs.Places.{same_identity, no_identity, no_place, empty_place, held_identity, held_correction, held_place, good_place}
 use Rattle.places.specs.declared.Identity.{Identity}
 use Rattle.places.specs.declared.Place.{Place}
+use Rattle.places.specs.declared.places.TheConstants.{NO_PLACE}
 
 -- The same identity is an equal one.
 
@@ -83,6 +84,9 @@ held-some clock p t =
     (λ f. f)
 
 -- The empty place.
+
+pub no-place-is : NO_PLACE ≡ no_place
+no-place-is = refl
 
 pub no-place-empty : empty_place no_place ≡ true
 unfolding empty_place same_identity

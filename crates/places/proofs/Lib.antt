@@ -1,3 +1,4 @@
+pub mod RefusalLaws
 pub mod PaddedLaws
 pub mod PlaceLaws
 pub mod HeldLaws

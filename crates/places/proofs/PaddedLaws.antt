@@ -6,12 +6,17 @@ use Prim.Native.Nat.{ℕ, ◌+◌, ◌*◌, ◌/◌, ◌%◌, ◌≤◌}
 use native.Mathlib.Omega.{arith}
 use native.Mathlib.Nat.{not-suc-le-zero, le_of_suc-le-suc}
 use lib.Dec.{eqb, ltb}
-use lib.ListN.{length, take}
-use borrow.Author.Tests.{eq-eqb, ne_eqb, eqb-true, lt-ltb, le-leb}
-use Rattle.lists.specs.Choice.{both}
+use lib.ListN.{length, get_or, take}
+use borrow.Author.Tests.{eq-eqb, ne_eqb, eqb-true, eqb-false, lt-ltb, le-leb}
+use Rattle.lists.specs.Choice.{both, found}
 use Rattle.lists.specs.Lists.{index_of, all_of}
-use Rattle.lists.specs.Base.{worth_after, places}
-use Rattle.lists.proofs.Choice.{both_left, both_right, both_true, both-three, both-four, either-cases}
+use Rattle.lists.specs.Base.{worth, worth_after, places}
+use Rattle.lists.proofs.Choice.{by, both_left, both_right, both_true, both-three, both-four, either-cases}
+use Rattle.std.specs.Prelude.{Some, None}
+use Rattle.std.specs.List.{position}
+use Rattle.std.specs.Option.{unwrap_or}
+use Rattle.lists.proofs.Found.{found-is, found-out}
+use Rattle.lists.proofs.Library.{position-or-length}
 use Rattle.lists.proofs.Lists.{all-weaken}
 use Rattle.lists.proofs.Base.{places-worth}
 use Rattle.words.specs.Bytes.{between, letter, digit}
@@ -26,84 +31,56 @@ use Rattle.places.specs.Padded.{padded, padded_of, unpadded, held_sequence}
 
 -- The forms of a sequence, written out.
 
-three-worth : (a b c : ℕ) → (a * 256 + b) * 256 + c ≡ worth_after 256 0 (a ∷ b ∷ c ∷ [])
+-- three characters as one number, behind a zero byte
+pub joined : (w : List ℕ) → length w ≡ 3 → 0 + get_or w 0 0 * 65536 + get_or w 1 0 * 256 + get_or w 2 0 ≡ worth 256 w
 unfolding worth_after
-three-worth a b c = let e : (a * 256 + b) * 256 + c ≡ ((0 * 256 + a) * 256 + b) * 256 + c = omega arith in e
+joined [] h = absurd (omega arith)
+joined (a ∷ []) h = absurd (omega arith)
+joined (a ∷ b ∷ []) h = absurd (omega arith)
+joined (a ∷ b ∷ c ∷ []) h = omega arith
+joined (a ∷ b ∷ c ∷ d ∷ w) h = absurd (omega arith)
 
 -- the digits of a good sequence: one, two or three; no more than two behind a letter
-pub third-digit : (s : Sequence) → good_sequence s ≡ true → s.letter ≡ 0 → (s.digits ≡ 1 → ⊥) → (s.digits ≡ 2 → ⊥) → s.digits ≡ 3
+pub third_digit : (s : Sequence) → good_sequence s ≡ true → s.letter ≡ 0 → (s.digits ≡ 1 → ⊥) → (s.digits ≡ 2 → ⊥) → s.digits ≡ 3
 unfolding good_sequence
-third-digit s g l one two =
+third_digit s g l one two =
     either-cases (both (eqb s.letter 0) (between 1 3 s.digits)) (both (letter s.letter) (between 1 2 s.digits)) (both_left (characters s) _ g)
     (λ e. let b = both_right (eqb s.letter 0) (between 1 3 s.digits) e in omega (arith, between-low 1 3 s.digits b, between-high 1 3 s.digits b, one, two))
     (λ e. absurd (let t = between-low 65 90 s.letter (both_left (letter s.letter) (between 1 2 s.digits) e) in omega (arith, t, l)))
 
-pub second-digit : (s : Sequence) → good_sequence s ≡ true → (s.letter ≡ 0 → ⊥) → (s.digits ≡ 1 → ⊥) → s.digits ≡ 2
+pub second_digit : (s : Sequence) → good_sequence s ≡ true → (s.letter ≡ 0 → ⊥) → (s.digits ≡ 1 → ⊥) → s.digits ≡ 2
 unfolding good_sequence
-second-digit s g l one =
+second_digit s g l one =
     either-cases (both (eqb s.letter 0) (between 1 3 s.digits)) (both (letter s.letter) (between 1 2 s.digits)) (both_left (characters s) _ g)
     (λ e. absurd (l (eqb-true s.letter 0 (both_left (eqb s.letter 0) (between 1 3 s.digits) e))))
     (λ e. let b = both_right (letter s.letter) (between 1 2 s.digits) e in omega (arith, between-low 1 2 s.digits b, between-high 1 2 s.digits b, one))
 
--- the three characters of each form, as the code puts them together
-pub bare-one : (s : Sequence) {ones r : ℕ} → s.letter ≡ 0 → s.digits ≡ 1 → ones ≡ s.number % 10 + 48 → r ≡ (ones * 256 + 32) * 256 + 32 → r ≡ padded_of s
-unfolding padded worth_after places spell_sequence
-bare-one s {ones} l d e t = t ∙ rw (l, d, e) (three-worth (s.number % 10 + 48) 32 32)
+-- how many of them stand before the first space
+eqb-swap : (a b : ℕ) → eqb a b ≡ eqb b a
+eqb-swap a b = by (eqb b a) (λ t. rw t (eq-eqb a b (sym (eqb-true b a t)))) (λ f. rw f (ne_eqb a b (λ e. eqb-false b a f (sym e))))
 
-pub bare-two : (s : Sequence) {ones tens r : ℕ} → s.letter ≡ 0 → s.digits ≡ 2 → ones ≡ s.number % 10 + 48 → tens ≡ s.number / 10 % 10 + 48
-    → r ≡ (tens * 256 + ones) * 256 + 32 → r ≡ padded_of s
-unfolding padded worth_after places spell_sequence
-bare-two s l d e f t = t ∙ rw (l, d, e, f) (three-worth (s.number / 10 % 10 + 48) (s.number % 10 + 48) 32)
-
-pub bare-three : (s : Sequence) {ones tens hundreds r : ℕ} → good_sequence s ≡ true → s.letter ≡ 0 → (s.digits ≡ 1 → ⊥) → (s.digits ≡ 2 → ⊥)
-    → ones ≡ s.number % 10 + 48 → tens ≡ s.number / 10 % 10 + 48 → hundreds ≡ s.number / 10 / 10 % 10 + 48
-    → r ≡ (hundreds * 256 + tens) * 256 + ones → r ≡ padded_of s
-unfolding padded worth_after places spell_sequence
-bare-three s g l n m e f h t =
-    t ∙ rw (l, third-digit s g l n m, e, f, h) (three-worth (s.number / 10 / 10 % 10 + 48) (s.number / 10 % 10 + 48) (s.number % 10 + 48))
-
-pub lettered-one : (s : Sequence) {ones r : ℕ} → (s.letter ≡ 0 → ⊥) → s.digits ≡ 1 → ones ≡ s.number % 10 + 48
-    → r ≡ (s.letter * 256 + ones) * 256 + 32 → r ≡ padded_of s
-unfolding padded worth_after places spell_sequence
-lettered-one s l d e t = t ∙ rw (ne_eqb s.letter 0 l, d, e) (three-worth s.letter (s.number % 10 + 48) 32)
-
-pub lettered-two : (s : Sequence) {ones tens r : ℕ} → good_sequence s ≡ true → (s.letter ≡ 0 → ⊥) → (s.digits ≡ 1 → ⊥)
-    → ones ≡ s.number % 10 + 48 → tens ≡ s.number / 10 % 10 + 48 → r ≡ (s.letter * 256 + tens) * 256 + ones → r ≡ padded_of s
-unfolding padded worth_after places spell_sequence
-lettered-two s g l n e f t =
-    t ∙ rw (ne_eqb s.letter 0 l, second-digit s g l n, e, f) (three-worth s.letter (s.number / 10 % 10 + 48) (s.number % 10 + 48))
-
--- Finding the first space of three characters.
-
-pub space-0 : (a b c : ℕ) → a ≡ 32 → 0 ≡ index_of (eqb 32) (a ∷ b ∷ c ∷ [])
-unfolding index_of
-space-0 a b c e = rw (eq-eqb 32 a (sym e))
-
-pub space-1 : (a b c : ℕ) → (a ≡ 32 → ⊥) → b ≡ 32 → 1 ≡ index_of (eqb 32) (a ∷ b ∷ c ∷ [])
-unfolding index_of
-space-1 a b c n e = rw (ne_eqb 32 a (λ p. n (sym p)), eq-eqb 32 b (sym e))
-
-pub space-2 : (a b c : ℕ) → (a ≡ 32 → ⊥) → (b ≡ 32 → ⊥) → c ≡ 32 → 2 ≡ index_of (eqb 32) (a ∷ b ∷ c ∷ [])
-unfolding index_of
-space-2 a b c n m e = rw (ne_eqb 32 a (λ p. n (sym p)), ne_eqb 32 b (λ p. m (sym p)), eq-eqb 32 c (sym e))
-
-pub space-3 : (a b c : ℕ) → (a ≡ 32 → ⊥) → (b ≡ 32 → ⊥) → (c ≡ 32 → ⊥) → 3 ≡ index_of (eqb 32) (a ∷ b ∷ c ∷ [])
-unfolding index_of
-space-3 a b c n m o = rw (ne_eqb 32 a (λ p. n (sym p)), ne_eqb 32 b (λ p. m (sym p)), ne_eqb 32 c (λ p. o (sym p)))
+pub space-count : (w : List ℕ) → length w ≡ 3 → unwrap_or (position (λ x. eqb x 32) w) 3 ≡ index_of (eqb 32) w
+space-count w h =
+    ap (unwrap_or (position (λ x. eqb x 32) w)) (sym h) ∙ position-or-length (λ x. eqb x 32) w ∙ ap (λ f. index_of f w) (λ i x. eqb-swap x 32 i)
 
 -- what a padded number holds before its first space, three characters being given
-pub unpads : (n : ℕ) {count : ℕ} → count ≡ index_of (eqb 32) (n / 256 / 256 % 256 ∷ n / 256 % 256 ∷ n % 256 ∷ []) → take count (n / 256 / 256 % 256 ∷ n / 256 % 256 ∷ n % 256 ∷ []) ≡ unpadded n
+pub unpads : (n : ℕ) {count : ℕ} → count ≡ index_of (eqb 32) (n / 65536 % 256 ∷ n / 256 % 256 ∷ n % 256 ∷ []) → take count (n / 65536 % 256 ∷ n / 256 % 256 ∷ n % 256 ∷ []) ≡ unpadded n
 unfolding unpadded places
-unpads n e = ap (λ (k : ℕ). take k (n / 256 / 256 % 256 ∷ n / 256 % 256 ∷ n % 256 ∷ [])) e
+unpads n e =
+    let a : n / 65536 % 256 ≡ n / 256 / 256 % 256 = omega arith in
+    rw (e, a)
 
 -- the test of a held sequence, by the sequence that its characters are
-pub held-good : (n : ℕ) → good_sequence (sequence_of (unpadded n)) ≡ true → eqb (padded_of (sequence_of (unpadded n))) n ≡ held_sequence n
+pub held_good : (n : ℕ) {s : Sequence} → found good_sequence (sequence_of (unpadded n)) ≡ Some s → (good_sequence s ≡ true) × (eqb (padded_of s) n ≡ held_sequence n)
 unfolding held_sequence
-held-good n g = rw (g, reads-spelled sequence-reads (unpadded n) g)
+held_good n e =
+    let r = found-is good_sequence {v = sequence_of (unpadded n)} e in
+    let g : good_sequence (sequence_of (unpadded n)) ≡ true = r.1 in
+    (ap good_sequence (sym r.0) ∙ g, rw (← r.0, g, reads-spelled sequence-reads (unpadded n) g))
 
-pub held-bad : (n : ℕ) → good_sequence (sequence_of (unpadded n)) ≡ false → false ≡ held_sequence n
+pub held_bad : (n : ℕ) → found good_sequence (sequence_of (unpadded n)) ≡ None → false ≡ held_sequence n
 unfolding held_sequence
-held-bad n g = rw g
+held_bad n e = rw (found-out good_sequence {v = sequence_of (unpadded n)} e)
 
 -- Padding undone: three characters, none of them a space, are found again.
 

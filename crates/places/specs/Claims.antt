@@ -1,7 +1,7 @@
 -- What a message asks of the board at a clock: the place that it would take, or a refusal.
 -- 01, "13; 15 a test; 18 no start; 19 no end, or no start of a target; 20 end at or before the clock"
 -- Tied: `asks` (crates/promises/proofs/Messages.antt).
-use Rattle.std.specs.Prelude.{Bool, true, false, not, ℕ, leb, eqb}
+use Rattle.std.specs.Prelude.{Bool, true, false, not, ℕ, leb, eqb, Result, Ok, Err}
 use Rattle.lists.specs.Choice.{pick}
 use Rattle.groups.specs.declared.Group.{Group}
 use Rattle.headings.specs.declared.Sequence.{Sequence}
@@ -13,9 +13,15 @@ use Rattle.calendar.specs.Gregorian.{never}
 use Rattle.calendar.specs.Instants.{start_of, end_of, target_of}
 use Rattle.places.specs.Padded.{padded_of}
 use Rattle.places.specs.Places.{no_place}
-use Rattle.places.specs.declared.Claim.{Claim}
 use Rattle.places.specs.declared.Identity.{Identity}
 use Rattle.places.specs.declared.Place.{Place}
+use Rattle.places.specs.declared.refusals.Refusal.{Refusal}
+use Rattle.places.specs.Refusals.{number_of}
+
+-- what a message asks for: a refusal number, or 0 and the place that it would take
+pub record Claim : Type 0 where
+  pub answer : ℕ
+  pub place : Place
 
 -- refused by a number, and a place asked for
 abbrev pub unclaimed : ℕ → Claim
@@ -23,6 +29,11 @@ unclaimed number = record { answer = number; place = no_place }
 
 abbrev pub claimed : Place → Claim
 claimed p = record { answer = 0; place = p }
+
+-- what the code answers: the place, or the refusal by its name
+abbrev pub claim_in : Result Place Refusal → Claim
+claim_in (Ok p) = claimed p
+claim_in (Err e) = unclaimed (number_of e)
 
 -- "Identity: type, area, sequence as written, start, end."
 abbrev pub identity_of : Record → Sequence → ℕ → ℕ → Identity

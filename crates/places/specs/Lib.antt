@@ -1,3 +1,4 @@
+pub mod Refusals
 pub mod Padded
 pub mod Places
 pub mod Claims

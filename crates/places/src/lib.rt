@@ -4,13 +4,15 @@
 mod claims;
 mod padding;
 mod places;
+mod refusals;
 
 pub use claims::claim_of;
-pub use places::{empty_place, good_place, no_place, same_identity};
+pub use places::{NO_PLACE, empty_place, good_place, same_identity};
+pub use refusals::Refusal;
 
 // The type as its kind in the listing, 2 WS or 3 WV; the area's letters and the sequence's characters, filled up to three with spaces, in
 // base 256; start and end in minutes from 2000-01-01 0000Z.
-#[derive(Clone, Copy)]
+#[derive(Clone, Copy, Debug, PartialEq, Eq)]
 pub struct Identity {
     pub kind: u8,
     pub area: u32,
@@ -20,16 +22,9 @@ pub struct Identity {
 }
 
 // The correction is its letter, or 0 for none. All zero is an empty place.
-#[derive(Clone, Copy)]
+#[derive(Clone, Copy, Debug, PartialEq, Eq)]
 pub struct Place {
     pub identity: Identity,
     pub correction: u8,
     pub marked: bool,
-}
-
-// What a message asks for: a refusal number, or 0 and the place that it would take.
-#[derive(Clone, Copy)]
-pub struct Claim {
-    pub answer: u8,
-    pub place: Place,
 }

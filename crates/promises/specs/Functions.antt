@@ -148,14 +148,14 @@ use Rattle.writer.proofs.write.Kinds as writer-write-kinds
 use Rattle.writer.proofs.write.Reads as writer-write-reads
 use Rattle.places.proofs.same_identity.Kinds as places-same-identity-kinds
 use Rattle.places.proofs.same_identity.Reads as places-same-identity-reads
-use Rattle.places.proofs.no_place.Kinds as places-no-place-kinds
-use Rattle.places.proofs.no_place.Reads as places-no-place-reads
 use Rattle.places.proofs.empty_place.Kinds as places-empty-place-kinds
 use Rattle.places.proofs.empty_place.Reads as places-empty-place-reads
 use Rattle.places.proofs.good_place.Kinds as places-good-place-kinds
 use Rattle.places.proofs.good_place.Reads as places-good-place-reads
 use Rattle.places.proofs.claim_of.Kinds as places-claim-of-kinds
 use Rattle.places.proofs.claim_of.Reads as places-claim-of-reads
+use Rattle.places.proofs.Refusal.number.Kinds as places-number-kinds
+use Rattle.places.proofs.Refusal.number.Reads as places-number-reads
 use Rattle.board.proofs.Board.new.Kinds as board-new-kinds
 use Rattle.board.proofs.Board.new.Reads as board-new-reads
 use Rattle.board.proofs.Board.is_good.Kinds as board-is-good-kinds
@@ -259,10 +259,10 @@ pub record Functions : Type 0 where
   pub writer-write : Settles 1 writer-write-kinds.ps writer-write-kinds.r writer-write-reads.Learnt
   -- places
   pub places-same-identity : Determines 0 places-same-identity-kinds.ps places-same-identity-kinds.r places-same-identity-reads.Learnt
-  pub places-no-place : Determines 0 places-no-place-kinds.ps places-no-place-kinds.r places-no-place-reads.Learnt
   pub places-empty-place : Determines 0 places-empty-place-kinds.ps places-empty-place-kinds.r places-empty-place-reads.Learnt
   pub places-good-place : Determines 0 places-good-place-kinds.ps places-good-place-kinds.r places-good-place-reads.Learnt
   pub places-claim-of : Determines 0 places-claim-of-kinds.ps places-claim-of-kinds.r places-claim-of-reads.Learnt
+  pub places-number : Determines 0 places-number-kinds.ps places-number-kinds.r places-number-reads.Learnt
   -- board
   pub board-new : Determines 0 board-new-kinds.ps board-new-kinds.r board-new-reads.Learnt
   pub board-is-good : Determines 0 board-is-good-kinds.ps board-is-good-kinds.r board-is-good-reads.Learnt

@@ -12,7 +12,7 @@ use Rattle.lists.specs.Base.{worth_after}
 use Rattle.lists.specs.Lists.{all_of, index_of, same}
 use Rattle.lists.proofs.Choice.{both_true}
 use Rattle.lists.proofs.Found.{some-good, some-is, none-bad}
-use Rattle.lists.proofs.Words.{position-found}
+use Rattle.lists.proofs.Library.{position-found}
 use Rattle.figures.specs.Codes.{short, code_of}
 use Rattle.figures.specs.Tables.{word_in}
 use Rattle.figures.proofs.TableLaws.{find-word}

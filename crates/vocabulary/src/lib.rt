@@ -163,7 +163,7 @@ pub const ERUPTION: [u8; 8] = *b"ERUPTION";
 pub const DISREGARD: [u8; 9] = *b"DISREGARD";
 
 // Is it the same word? It is asked of the two that have no code.
-#[tactic(auto, using(lists::proofs::Words::sames))]
+#[tactic(auto, using(lists::proofs::Library::sames))]
 pub fn same_word(w: &[u8], k: &[u8]) -> bool
     ensures { result ≡ same_as w.now k.now }
 {

@@ -1,22 +1,22 @@
--- `month_of` meets its contract: the day is from the first of `low` on and before the first of `high`, and the stretch between is halved.
-use mathlib.Core.Path.{◌≡◌}
-use Prim.Native.Nat.{suc}
-use native.Mathlib.Omega.{arith}
-use Rattle.calendar.proofs.MonthLaws.{first-zero}
-use Rattle.calendar.proofs.CenturyLaws.{first-last}
+-- `month_of` meets its contract: the day parts the table.
+use mathlib.Core.Path.{refl}
+use Prim.Native.Nat.{◌-◌, ◌≤◌}
+use lib.Dec.{leb}
+use Rattle.std.proofs.lemmas.List.Sorted.{IsPartitionPoint-from_clause}
+use Rattle.calendar.specs.Gregorian.{month_length, Falls}
+use Rattle.calendar.specs.declared.table.TheConstants.{FIRST_DAYS}
+use Rattle.calendar.proofs.TableLaws.{parted, last-begun}
 use borrow.Author.Rules.{rules}
 use Rattle.calendar.proofs.months.month_of.Goals as goal
 
-pub loop-high-init : goal.loop-high-init
-loop-high-init c = omega (arith, first-zero, first-last)
+begun : (c : goal.After-partition_point) → (1 ≤ c.partition_point.result) × Falls c.args.day (c.partition_point.result - 1)
+unfolding month_length
+begun c =
+    last-begun FIRST_DAYS refl c.args.day refl c.requires _ c.partition_point.ensures.bound
+    (IsPartitionPoint-from_clause (λ n. leb n c.args.day) FIRST_DAYS _ c.partition_point.ensures.partitioned (parted FIRST_DAYS refl c.args.day) (λ a r q k. search rules))
 
-pub loop-high-preserved-then-first_day-day : goal.loop-high-preserved-then-first_day-day
-loop-high-preserved-then-first_day-day c = omega (arith, c.first_day.ensures)
-
-pub loop-high-preserved : goal.loop-high-preserved
-loop-high-preserved c = omega (arith, c.first_day.ensures)
+pub overflow_sub-result : goal.overflow_sub-result
+overflow_sub-result c = (begun c).0
 
 pub returns : goal.returns
-returns c =
-    let next : c.loop-high.high ≡ suc c.loop-high.low = omega arith in
-    record { within = omega arith; from = search rules; until = rw next at c.loop-high.invariant.3 }
+returns c = (begun c).1

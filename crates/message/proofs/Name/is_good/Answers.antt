@@ -9,7 +9,7 @@ use Rattle.std.proofs.lemmas.Iterator.{YieldsList-from_slice}
 use Rattle.std.proofs.lemmas.Iterator.Search.{all_from_yields_List}
 use Rattle.std.specs.List.{list_all}
 use Rattle.lists.specs.Choice.{both}
-use Rattle.lists.proofs.Library.{all_of_list}
+use Rattle.lists.proofs.Library.{all-list}
 use Rattle.names.specs.Names.{name_text}
 use Rattle.message.specs.Limits.{name_bytes}
 use Rattle.message.specs.Names.{zero_byte, good_name}
@@ -21,7 +21,7 @@ fitting : (mountain : Bool) (limit : ℕ) (n : Name) → 1 ≤ n.count → n.cou
     → zeros ≡ list_all zero_byte (drop n.count n.bytes)
     → good_name mountain limit n ≡ both zeros (name_text mountain (take n.count n.bytes))
 unfolding good_name
-fitting mountain limit n some fits long zeros told = rw (le-leb 1 n.count some, le-leb n.count limit fits, long, all_of_list zero_byte (drop n.count n.bytes), told)
+fitting mountain limit n some fits long zeros told = rw (le-leb 1 n.count some, le-leb n.count limit fits, long, all-list zero_byte (drop n.count n.bytes), told)
 
 pub returns-then-all : goal.returns-then-all
 returns-then-all c =

@@ -17,7 +17,7 @@ use Rattle.std.proofs.lemmas.Iterator.{YieldsList-from_slice}
 use Rattle.std.proofs.lemmas.Iterator.Search.{all_from_yields_List, position_from_yields_List}
 use Rattle.lists.specs.Choice.{both}
 use Rattle.lists.proofs.Choice.{by}
-use Rattle.lists.proofs.Library.{all_of_list, index_of_position}
+use Rattle.lists.proofs.Library.{all-list, index-position}
 use Rattle.coordinates.specs.Points.{good_point, empty_point, same_point, no_point}
 use Rattle.coordinates.specs.declared.Point.{Point}
 use Rattle.message.specs.Limits.{least_points, most_points}
@@ -48,8 +48,8 @@ fitting n ps least most long =
     let later : List Point = drop 1 ps in
     let closes : option_eq eqb (found ps) (Some (n - 2)) ≡ eqb (closing_point ps) (n - 1) =
     counted (position_or_len (same_point (get_or ps 0 no_point)) later) (length later) n (omega arith) (omega (arith, length-drop 1 ps))
-    ∙ rw (index_of_position (same_point (get_or ps 0 no_point)) later) in
-    rw (le-leb least_points n least, le-leb n most_points most, long, all_of_list good_point (take n ps), all_of_list empty_point (drop n ps), closes)
+    ∙ rw (index-position (same_point (get_or ps 0 no_point)) later) in
+    rw (le-leb least_points n least, le-leb n most_points most, long, all-list good_point (take n ps), all-list empty_point (drop n ps), closes)
 
 fitted : (c : After-all) → good_outline c.args.n c.args.points.now ≡ both (list_all good_point (take c.args.n c.args.points.now)) (both (option_eq eqb (found c.args.points.now) (Some (c.args.n - 2))) (list_all empty_point (drop c.args.n c.args.points.now)))
 fitted c =

@@ -1,21 +1,15 @@
 -- `claim_of` meets its contract.
-use Rattle.places.proofs.ClaimReturns.{bad-record, a_test, no_start, no_end, a-claim, good-known}
+use borrow.Author.Rules.{rules}
+use Rattle.places.proofs.ClaimReturns.{no-start, no-end, a-claim}
 use Rattle.places.proofs.claims.claim_of.Goals as goal
 
-pub returns-then-not-is_good : goal.returns-then-not-is_good
-returns-then-not-is_good c = search bad-record
+pub returns-in_err-start : goal.returns-in_err-start
+returns-in_err-start c = no-start _ _ (search rules) (search rules) c.start_of.ensures c.ok_or.ensures.value c.in_err-start.was (search rules)
 
-pub returns-then-is_test : goal.returns-then-is_test
-returns-then-is_test c = search a_test
-
-pub returns-then-start-eq-NEVER : goal.returns-then-start-eq-NEVER
-returns-then-start-eq-NEVER c = search no_start
-
-pub returns-then-end-eq-NEVER : goal.returns-then-end-eq-NEVER
-returns-then-end-eq-NEVER c = search no_end
-
-pub timed_claim-requires : goal.timed_claim-requires
-timed_claim-requires c = search good-known
+pub returns-in_err-end : goal.returns-in_err-end
+returns-in_err-end c =
+    no-end _ _ (search rules) (search rules) c.start_of.ensures c.ok_or.ensures.value (search rules) c.end_of.ensures c.ok_or-2.ensures.value c.in_err-end.was (search rules)
 
 pub returns : goal.returns
-returns c = search a-claim
+returns c =
+    a-claim _ _ (search rules) (search rules) c.start_of.ensures c.ok_or.ensures.value (search rules) c.end_of.ensures c.ok_or-2.ensures.value (search rules) c.timed_claim.ensures

@@ -1,18 +1,11 @@
 -- `padded` meets its contract.
-use Rattle.places.proofs.PaddedLaws.{bare-one, bare-two, bare-three, lettered-one, lettered-two}
+use mathlib.Core.Path.{◌≡◌, ◌∙◌}
+use lib.ListN.{length}
+use Rattle.places.proofs.PaddedLaws.{joined}
+use borrow.Author.Rules.{rules}
 use Rattle.places.proofs.padding.padded.Goals as goal
 
-pub returns-then-s-eq1 : goal.returns-then-s-eq1
-returns-then-s-eq1 c = search bare-one
-
-pub returns-then-s-eq2 : goal.returns-then-s-eq2
-returns-then-s-eq2 c = search bare-two
-
-pub returns-then-s-eq0 : goal.returns-then-s-eq0
-returns-then-s-eq0 c = search bare-three
-
-pub returns-then-s-eq1-2 : goal.returns-then-s-eq1-2
-returns-then-s-eq1-2 c = search lettered-one
-
 pub returns : goal.returns
-returns c = search lettered-two
+returns c =
+    let long : length c.characters.result ≡ 3 = search rules in
+    c.from_be_bytes.ensures ∙ joined c.characters.result long ∙ c.characters.ensures
