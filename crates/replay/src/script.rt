@@ -1,6 +1,9 @@
 // A script, command by command.
-ghost use Rattle.std.specs.Prelude.{◌≡◌, ◌<◌, ◌≤◌, length, OnSome};
+ghost use Rattle.std.specs.Prelude.{◌≡◌, ◌<◌, ◌≤◌, length, true, OnSome};
 ghost use Rattle.std.specs.Iterator.{at_most};
+ghost use Rattle.lists.specs.Lists.{all_of};
+ghost use Rattle.words.specs.Bytes.{digit};
+ghost use Rattle.replay.specs.Numbers.{figures_end, value_in, front_number, behind_number};
 
 use std::str;
 use words::is_digit;
@@ -43,12 +46,13 @@ impl<'a> Script<'a> {
 
     // One or more figures, of a number of at most 4,294,967,295.
     fn number(&mut self) -> Option<u32>
-        ensures { length self.new.rest.now ≤ length self.old.rest.now }
+        ensures value { result ≡ front_number self.old.rest.now }
+        ensures rest { self.new.rest.now ≡ behind_number self.old.rest.now }
+        ensures fewer { length self.new.rest.now ≤ length self.old.rest.now }
     {
-        let end = figures_end(self.rest);
-        let (figures, rest) = self.rest.split_at(end);
+        let (figures, rest) = self.rest.split_at(figures_end(self.rest));
         self.rest = rest;
-        str::from_utf8(figures).ok()?.parse().ok()
+        value_in(figures)
     }
 
     // A space, and a number behind it.
@@ -106,9 +110,17 @@ impl<'a> Iterator for Script<'a> {
 
 // The place of the first byte that is no figure, or the length where there is none.
 fn figures_end(text: &[u8]) -> usize
-    ensures { result ≤ length text.now }
+    ensures within { result ≤ length text.now }
+    ensures value { result ≡ figures_end text.now 0 }
 {
     text.iter()
         .position(|x| !is_digit(*x))
         .unwrap_or(text.len())
+}
+
+fn value_in(figures: &[u8]) -> Option<u32>
+    requires { all_of digit figures.now ≡ true }
+    ensures { result ≡ value_in figures.now }
+{
+    str::from_utf8(figures).ok()?.parse().ok()
 }
