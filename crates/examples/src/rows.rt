@@ -75,14 +75,14 @@ impl<'a> Row<'a> {
 
     // Is the text written of this record the expected one? Where it is not, it is printed.
     fn is_written(&self, out: &mut impl Write, alloc: Global, message: Record) -> io::Result<bool> {
-        let mut text = [0; 2048];
+        let mut text = vec![in alloc; 0; 2048]?;
         let written = write(message, &mut text);
-        let text = &text[..written.count];
-        if text == unescaped(alloc, self.canonical)?.as_slice() {
+        text.truncate(written.count);
+        if text == unescaped(alloc, self.canonical)? {
             return Ok(true);
         }
         write!(out, " WRONG, canonical text ")?;
-        out.write_all(text)?;
+        out.write_all(&text)?;
         writeln!(out, "")?;
         Ok(false)
     }

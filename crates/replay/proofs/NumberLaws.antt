@@ -1,5 +1,5 @@
 -- Numbers of a script: where its figures end, what std's `parse` reads of them, and the number at the front of what is left.
-use Rattle.std.proofs.Common.{◌≡◌, refl, sym, ap, ◌∙◌, rules, arith, ℕ, suc, ◌+◌, ◌-◌, ◌*◌, ◌%◌, ◌^◌, ◌<◌, ◌≤◌, length, Bool, true, false, cond, List, [], ◌∷◌, Option, Some, None, Result, Ok, Err, unwrap_or, not, take, drop, position, Bor}
+use Rattle.std.proofs.Common.{◌≡◌, refl, sym, ap, ◌∙◌, rules, arith, ℕ, suc, ◌+◌, ◌*◌, ◌≤◌, length, Bool, true, false, cond, List, [], ◌∷◌, Some, None, Result, Ok, Err, unwrap_or, not, take, drop, position}
 use Rattle.std.specs.List.{position_or_len}
 use Rattle.std.specs.Prelude.{ltb, eqb}
 use Rattle.std.specs.Result.{result_ok}
@@ -10,9 +10,9 @@ use Rattle.std.proofs.lemmas.Grind.{common_steps}
 use Rattle.std.proofs.lemmas.List.{length-take-le}
 use Rattle.std.proofs.lemmas.Str.{IsUtf8-from_ascii}
 use Rattle.std.proofs.lemmas.Str.Parse.{IsDigitsTest, IsNumeralModel, FoldsDigits, numerals_by_fold, parse_digits}
-use borrow.Author.Tests.{ltb-true, ltb-false, eqb-true, eqb-false, lt-ltb, le-ltb, eq-eqb, ne_eqb}
+use borrow.Author.Tests.{ltb-false, eqb-false, le-ltb, ne_eqb}
 use Rattle.lists.specs.Choice.{pick}
-use Rattle.lists.specs.Lists.{index_of, index_from, all_of, part}
+use Rattle.lists.specs.Lists.{index_of, all_of, part}
 use Rattle.lists.proofs.Lists.{from_zero, index-within, index-clear, all-not-not}
 use Rattle.words.specs.Bytes.{digit}
 use Rattle.replay.specs.Numbers.{greatest, no_figure, figures_end, value_from, no_number, a_number, number_to, number_at, value_in, front_number, behind_number}

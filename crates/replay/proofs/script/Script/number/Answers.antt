@@ -1,5 +1,5 @@
 -- `Script::number` cuts the figures off the front: theirs is the value, and what is behind them is left.
-use Rattle.std.proofs.Common.{◌≡◌, sym, ap, ◌∙◌, subst, ℕ, List, true, take, drop}
+use Rattle.std.proofs.Common.{ap, ◌∙◌, ℕ, List, take, drop}
 use Rattle.lists.specs.Lists.{all_of}
 use Rattle.words.specs.Bytes.{digit}
 use Rattle.replay.proofs.NumberLaws.{clear, fronted, behind}
