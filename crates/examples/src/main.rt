@@ -30,7 +30,8 @@ fn main(rt: HostRuntime) -> io::Result<()> {
     out.flush()
 }
 
-// The table. A read that fails ends it like the end of the input.
+// The table. A read that fails ends it like the end of the input. Each program has such a function of its own: the crates that they share are the
+// libraries, which take no memory from a heap.
 fn input(rt: &impl Input, alloc: Global) -> io::Result<Vec<u8>> {
     let mut bytes = Vec::new(alloc);
     match rt.reader().take(MOST).read_to_end(&mut bytes) {

@@ -70,7 +70,7 @@ impl<'a> Row<'a> {
             out.write_all(b" ")?;
             out.write_all(text)?;
         }
-        writeln!(out, "")
+        writeln!(out)
     }
 
     // Is the text written of this record the expected one? Where it is not, it is printed.
@@ -83,7 +83,7 @@ impl<'a> Row<'a> {
         }
         write!(out, " WRONG, canonical text ")?;
         out.write_all(&text)?;
-        writeln!(out, "")?;
+        writeln!(out)?;
         Ok(false)
     }
 }

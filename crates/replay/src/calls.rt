@@ -4,7 +4,7 @@ use board::{Board, Posted};
 use listing::list;
 use reader::read;
 use std::alloc::Global;
-use std::{fmt, io};
+use std::io;
 
 impl Command<'_> {
     pub(crate) fn carry_out(
@@ -34,7 +34,8 @@ fn post(rt: &impl Print, board: &mut Board, clock: u32, bulletin: &[u8]) -> io::
     println!(rt; "p {answer}")
 }
 
-// Lists at a time into a buffer of so many bytes. What was listed follows the count, where that is not 0.
+// Lists at a time into a buffer of so many bytes. What was listed follows the count in hexadecimal, where that is not 0. Such a line is put together
+// first: `println!` prints one of more than 1,024 bytes by several calls.
 fn list_into(
     rt: &impl Print,
     alloc: Global,
@@ -45,24 +46,10 @@ fn list_into(
     let mut bytes = vec![in alloc; 0; room]?;
     let listed = list(board, time, &mut bytes);
     bytes.truncate(listed.count);
-    let number = listed.number;
-    let count = listed.count;
     if bytes.is_empty() {
-        return println!(rt; "l {number} {count}");
+        return println!(rt; "l {} {}", listed.number, listed.count);
     }
-    let line = format!(in alloc; "l {number} {count} {}\n", Hex(&bytes))?;
+    let figures = hex::encode(alloc, &bytes)?;
+    let line = format!(in alloc; "l {} {} {figures}\n", listed.number, listed.count)?;
     rt.write_all(line.as_bytes())
-}
-
-// Bytes in hexadecimal, two figures each, in lower case.
-#[derive(Clone, Copy)]
-struct Hex<'a>(&'a [u8]);
-
-impl fmt::Display for Hex<'_> {
-    fn fmt<W: fmt::Write>(&self, f: &mut fmt::Formatter<W>) -> fmt::Result {
-        for byte in self.0 {
-            write!(f, "{byte:02x}")?;
-        }
-        Ok(())
-    }
 }

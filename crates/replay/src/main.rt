@@ -21,7 +21,7 @@ fn main(rt: HostRuntime) -> io::Result<()> {
     }
     let mut board = Board::new();
     for command in Script::new(&text) {
-        let Some(command) = command else {
+        let Ok(command) = command else {
             return println!(rt; "?");
         };
         command.carry_out(&rt, alloc, &mut board)?;
@@ -29,7 +29,8 @@ fn main(rt: HostRuntime) -> io::Result<()> {
     Ok(())
 }
 
-// The script, and one byte more, so that a longer one is seen as such. A read that fails ends it like the end of the input.
+// The script, and one byte more, so that a longer one is seen as such. A read that fails ends it like the end of the input. Each program has such
+// a function of its own: the crates that they share are the libraries, which take no memory from a heap.
 fn input(rt: &impl Input, alloc: Global) -> io::Result<Vec<u8>> {
     let mut bytes = Vec::new(alloc);
     match rt.reader().take(MOST as u64 + 1).read_to_end(&mut bytes) {

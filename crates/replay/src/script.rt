@@ -36,14 +36,6 @@ impl<'a> Script<'a> {
         Some(())
     }
 
-    fn bytes(&mut self, count: usize) -> Option<&'a [u8]>
-        ensures { length self.new.rest.now ≤ length self.old.rest.now }
-    {
-        let (bytes, rest) = self.rest.split_at_checked(count)?;
-        self.rest = rest;
-        Some(bytes)
-    }
-
     // One or more figures, of a number of at most 4,294,967,295.
     fn number(&mut self) -> Option<u32>
         ensures value { result ≡ front_number self.old.rest.now }
@@ -67,14 +59,13 @@ impl<'a> Script<'a> {
     fn command(&mut self) -> Option<Command<'a>>
         ensures { OnSome result (length self.new.rest.now < length self.old.rest.now) }
     {
-        let (letter, rest) = self.rest.split_first()?;
-        self.rest = rest;
+        let letter = self.rest.split_off_first()?;
         let first = self.field()?;
         let second = self.field()?;
         self.byte(b'\n')?;
         match letter {
             b'P' => {
-                let bulletin = self.bytes(second as usize)?;
+                let bulletin = self.rest.split_off(..second as usize)?;
                 self.byte(b'\n')?;
                 Some(Command::Post {
                     clock: first,
@@ -90,13 +81,17 @@ impl<'a> Script<'a> {
     }
 }
 
-// The commands, and `None` in place of the first that is not well-formed, which ends the script.
+// Here stands something else than a command.
+#[derive(Clone, Copy)]
+pub(crate) struct Malformed;
+
+// The commands. The first that is not well-formed ends the script.
 impl<'a> Iterator for Script<'a> {
-    type Item = Option<Command<'a>>;
+    type Item = Result<Command<'a>, Malformed>;
 
     ghost remaining = { λ s. at_most (length s.rest.now) };
 
-    fn next(&mut self) -> Option<Option<Command<'a>>> {
+    fn next(&mut self) -> Option<Result<Command<'a>, Malformed>> {
         if self.rest.is_empty() {
             return None;
         }
@@ -104,7 +99,7 @@ impl<'a> Iterator for Script<'a> {
         if command.is_none() {
             self.rest = &[];
         }
-        Some(command)
+        Some(command.ok_or(Malformed))
     }
 }
 

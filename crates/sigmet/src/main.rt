@@ -22,7 +22,9 @@ fn main(rt: HostRuntime) -> io::Result<()> {
     Ok(())
 }
 
-// The bulletin. A read that fails ends it like the end of the input, so that a closed input has no bytes. There is room to see the end in.
+// The bulletin. A read that fails ends it like the end of the input, so that a closed input has no bytes. There is one
+// byte of room left to see the end in. Each program has such a function of its own: the crates that they share are the libraries, which take no
+// memory from a heap.
 fn input(rt: &impl Input, alloc: Global) -> io::Result<Vec<u8>> {
     let mut bytes = Vec::with_capacity(alloc, MOST + 1)?;
     match rt.reader().take(MOST as u64).read_to_end(&mut bytes) {
