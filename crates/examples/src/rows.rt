@@ -64,6 +64,7 @@ impl<'a> Row<'a> {
         Ok(true)
     }
 
+    // By `write_all` and no `Display`, for the bytes of a table need not be text.
     fn tell_expected(&self, out: &mut impl Write) -> io::Result<()> {
         write!(out, " WRONG, expected")?;
         for text in self.reply {

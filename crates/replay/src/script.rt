@@ -37,6 +37,7 @@ impl<'a> Script<'a> {
     }
 
     // One or more figures, of a number of at most 4,294,967,295.
+    #[tactic(auto, using(crate::proofs::NumberLaws::clear, crate::proofs::NumberLaws::fronted, crate::proofs::NumberLaws::behind))]
     fn number(&mut self) -> Option<u32>
         ensures value { result ≡ front_number self.old.rest.now }
         ensures rest { self.new.rest.now ≡ behind_number self.old.rest.now }
@@ -113,6 +114,7 @@ fn figures_end(text: &[u8]) -> usize
         .unwrap_or(text.len())
 }
 
+#[tactic(auto, using(crate::proofs::NumberLaws::text, crate::proofs::NumberLaws::parsed))]
 fn value_in(figures: &[u8]) -> Option<u32>
     requires { all_of digit figures.now ≡ true }
     ensures { result ≡ value_in figures.now }
