@@ -1,82 +1,107 @@
--- Numbers of a script: a value that stays where it is past the greatest number tells as much as the value itself.
-use mathlib.Core.Bool.{Bool, true, false}
-use mathlib.Core.List.{List, [], ◌∷◌}
-use mathlib.Core.Path.{◌≡◌, refl, sym, ap, subst, ◌∙◌}
-use Prim.Native.Nat.{ℕ, suc, ◌+◌, ◌*◌, ◌%◌, ◌<◌, ◌≤◌}
-use native.Mathlib.Numerals.{add-one}
-use native.Mathlib.Omega.{arith}
-use lib.Dec.{ltb}
-use lib.ListN.{length, drop, get_or, drop_of_length-le}
-use lib.Seq.{drop-cons}
-use borrow.Author.Tests.{ltb-true, ltb-false, lt-ltb, le-ltb, eq-eqb, ne_eqb}
+-- Numbers of a script: where its figures end, what std's `parse` reads of them, and the number at the front of what is left.
+use Rattle.std.proofs.Common.{◌≡◌, refl, sym, ap, ◌∙◌, rules, arith, ℕ, suc, ◌+◌, ◌*◌, ◌≤◌, length, Bool, true, false, cond, List, [], ◌∷◌, Some, None, Result, Ok, Err, unwrap_or, not, take, drop, position}
+use Rattle.std.specs.List.{position_or_len}
+use Rattle.std.specs.Prelude.{ltb, eqb}
+use Rattle.std.specs.Result.{result_ok}
+use Rattle.std.specs.Str.{IsUtf8}
+use Rattle.std.specs.Str.Parse.{ParsesUnsigned}
+use Rattle.std.proofs.lemmas.Fmt.{IsAscii-from_digits}
+use Rattle.std.proofs.lemmas.Grind.{common_steps}
+use Rattle.std.proofs.lemmas.List.{length-take-le}
+use Rattle.std.proofs.lemmas.Str.{IsUtf8-from_ascii}
+use Rattle.std.proofs.lemmas.Str.Parse.{IsDigitsTest, IsNumeralModel, FoldsDigits, numerals_by_fold, parse_digits}
+use borrow.Author.Tests.{ltb-false, eqb-false, le-ltb, ne_eqb}
 use Rattle.lists.specs.Choice.{pick}
-use Rattle.lists.specs.Lists.{part}
-use Rattle.replay.specs.Numbers.{greatest, figures_end, value_from, capped, grown_by, no_number, a_number, number_to, number_at}
+use Rattle.lists.specs.Lists.{index_of, all_of, part}
+use Rattle.lists.proofs.Lists.{from_zero, index-within, index-clear, all-not-not}
+use Rattle.words.specs.Bytes.{digit}
+use Rattle.replay.specs.Numbers.{greatest, no_figure, figures_end, value_from, no_number, a_number, number_to, number_at, value_in, front_number, behind_number}
 
-past : (v x : ℕ) → greatest < v → greatest < v * 10 + x % 16
-past v x h = omega arith
+-- std's place of the first element that passes a test is ours
+same-place : (f : ℕ → Bool) (xs : List ℕ) → position_or_len f xs ≡ index_of f xs
+unfolding index_of
+same-place f [] = refl
+same-place f (x ∷ xs) =
+    let rest = same-place f xs in
+    elim (f x) as (λ b. cond (not b) (1 + position_or_len f xs) 0 ≡ pick b 0 (suc (index_of f xs))) [ true ↦ refl | false ↦ omega (arith, rest) ]
 
-long : (v : ℕ) (xs : List ℕ) → greatest < v → greatest < value_from v xs
-unfolding value_from
-long v [] h = h
-long v (x ∷ xs) h = long (v * 10 + x % 16) xs (past v x h)
-
-capped-long : (n : ℕ) → greatest < n → capped n ≡ 4294967296
-capped-long n h = rw (lt-ltb greatest n h)
-
-one-figure : (v x : ℕ) (xs : List ℕ) → capped (value_from (grown_by v x) xs) ≡ capped (value_from v (x ∷ xs))
-unfolding value_from
-one-figure v x xs = go (ltb greatest v) refl
+place : (f : ℕ → Bool) (xs : List ℕ) → unwrap_or (position f xs) (length xs) ≡ index_of f xs
+place f xs = go (ltb (position_or_len f xs) (length xs)) refl
   where
-    go : (b : Bool) → ltb greatest v ≡ b → capped (value_from (pick b v (v * 10 + x % 16)) xs) ≡ capped (value_from (v * 10 + x % 16) xs)
-    go true e =
-        capped-long (value_from v xs) (long v xs (ltb-true greatest v e))
-        ∙ sym (capped-long (value_from (v * 10 + x % 16) xs) (long (v * 10 + x % 16) xs (past v x (ltb-true greatest v e))))
-    go false e = refl
+    go : (b : Bool) → ltb (position_or_len f xs) (length xs) ≡ b → unwrap_or (cond b (Some (position_or_len f xs)) None) (length xs) ≡ index_of f xs
+    go true e = same-place f xs
+    go false e = omega (arith, same-place f xs, ltb-false _ _ e, index-within f xs)
 
--- the loop over the figures: before it, on the way and behind it
-pub next-figure : (l : List ℕ) (i v : ℕ) → i < length l → capped (value_from (grown_by v (get_or l i 0)) (drop (i + 1) l)) ≡ capped (value_from v (drop i l))
-next-figure l i v h = rw (add-one, drop-cons l i 0 h) (one-figure v (get_or l i 0) (drop (suc i) l))
+pub found : (s : List ℕ) → unwrap_or (position no_figure s) (length s) ≡ figures_end s 0
+found s = place no_figure s ∙ sym (from_zero no_figure s)
 
-pub no_more : (l : List ℕ) (i v : ℕ) → length l ≤ i → capped v ≡ capped (value_from v (drop i l))
+-- figures and their value as std's `parse` has them
+tells : IsDigitsTest (λ (w : List ℕ). all_of digit w ≡ true)
+unfolding all_of
+tells = search rules
+
+folds : FoldsDigits value_from
 unfolding value_from
-no_more l i v h = rw (drop_of_length-le l h)
+folds = record { empty = λ n. refl; more = λ n c cs h. ap (λ (k : ℕ). value_from (n * 10 + k) cs) (omega (arith, h)) }
 
--- the three answers
-pub is_none : (s : List ℕ) (at end : ℕ) → end ≡ figures_end s at → end ≡ at → no_number end ≡ number_at s at
-unfolding number_at number_to
-is_none s at end e q = subst (λ (k : ℕ). no_number end ≡ number_to at k (value_from 0 (part at k s))) e (rw (eq-eqb end at q))
+own : IsNumeralModel (λ (w : List ℕ). all_of digit w ≡ true) (value_from 0)
+own = numerals_by_fold _ tells value_from folds
 
-too_long : (at end value p : ℕ) → (end ≡ at → ⊥) → greatest < value → capped value ≡ capped p → no_number end ≡ number_to at end p
+pub text : (w : List ℕ) → all_of digit w ≡ true → IsUtf8 w
+text w h = IsUtf8-from_ascii w (IsAscii-from_digits w (own.to w h))
+
+pub parsed : {E : Type 0} (w : List ℕ) (r : Result ℕ E) → ParsesUnsigned 32 10 w r → all_of digit w ≡ true → result_ok r ≡ value_in w
+parsed {E} w (Ok x) p h =
+    let q = parse_digits own {E = E} 32 w (Ok x) p h in
+    let full : length w ≡ 0 → ⊥ = λ e. omega (arith, e, q.0.0) in
+    let small : value_from 0 w ≤ greatest = omega (arith, q.0.1) in
+    rw (ne_eqb (length w) 0 full, le-ltb greatest (value_from 0 w) small) (ap Some q.1)
+parsed {E} w (Err e) p h = go (eqb (length w) 0) refl (ltb greatest (value_from 0 w)) refl
+  where
+    go : (a : Bool) → eqb (length w) 0 ≡ a → (b : Bool) → ltb greatest (value_from 0 w) ≡ b → None ≡ pick a None (pick b None (Some (value_from 0 w)))
+    go true _ b _ = refl
+    go false _ true _ = refl
+    go false n false m = absurd (parse_digits own {E = E} 32 w (Err e) p h (omega (arith, eqb-false _ _ n), omega (arith, ltb-false _ _ m)))
+
+-- the number at the front
+module _ (s : List ℕ) where
+  within : figures_end s 0 ≤ length s
+  within = omega (arith, from_zero no_figure s, index-within no_figure s)
+
+  front : part 0 (figures_end s 0) s ≡ take (figures_end s 0) s
+  front = grind (arith, common_steps)
+
+  pub clear : all_of digit (take (figures_end s 0) s) ≡ true
+  clear = rw (from_zero no_figure s) (sym (all-not-not digit (take (index_of no_figure s) s)) ∙ index-clear no_figure s)
+
+shown : (e v : ℕ) → pick (number_to 0 e v).formed (Some (number_to 0 e v).value) None ≡ pick (eqb e 0) None (pick (ltb greatest v) None (Some v))
 unfolding number_to
-too_long at end value p n h q = rw (ne_eqb end at n) (go (ltb greatest p) refl)
+shown e v = go (eqb e 0) (ltb greatest v)
   where
-    go : (b : Bool) → ltb greatest p ≡ b → no_number end ≡ pick b (no_number end) (a_number p end)
-    go true e = refl
-    go false e =
-        let z : capped p ≡ p = rw e in
-        absurd (omega (arith, sym (capped-long value h) ∙ (q ∙ z), ltb-false greatest p e))
+    go : (a b : Bool) → pick (pick a (no_number e) (pick b (no_number e) (a_number v e))).formed (Some (pick a (no_number e) (pick b (no_number e) (a_number v e))).value) None ≡ pick a None (pick b None (Some v))
+    go true b = refl
+    go false true = refl
+    go false false = refl
 
-fits : (at end value p : ℕ) → (end ≡ at → ⊥) → value ≤ greatest → capped value ≡ capped p → a_number value end ≡ number_to at end p
+pub after : (e v : ℕ) → (number_to 0 e v).next ≡ e
 unfolding number_to
-fits at end value p n h q = rw (ne_eqb end at n) (go (ltb greatest p) refl)
+after e v = go (eqb e 0) (ltb greatest v)
   where
-    small : capped value ≡ value
-    small = rw (le-ltb greatest value h)
+    go : (a b : Bool) → (pick a (no_number e) (pick b (no_number e) (a_number v e))).next ≡ e
+    go true b = refl
+    go false true = refl
+    go false false = refl
 
-    go : (b : Bool) → ltb greatest p ≡ b → a_number value end ≡ pick b (no_number end) (a_number p end)
-    go true e =
-        let z : capped p ≡ 4294967296 = rw e in
-        absurd (omega (arith, sym small ∙ (q ∙ z)))
-    go false e =
-        let z : capped p ≡ p = rw e in
-        ap (λ (n : ℕ). a_number n end) (sym small ∙ (q ∙ z))
+-- the figures at the front have the value of the number there, and what is behind them is behind it
+pub fronted : (s w : List ℕ) → w ≡ take (figures_end s 0) s → value_in w ≡ front_number s
+unfolding number_at
+fronted s w h =
+    let long : length w ≡ figures_end s 0 = ap length h ∙ length-take-le (figures_end s 0) s (within s) in
+    let all : w ≡ part 0 (figures_end s 0) s = h ∙ sym (front s) in
+    ap (λ (n : ℕ). pick (eqb n 0) None (pick (ltb greatest (value_from 0 w)) None (Some (value_from 0 w)))) long
+    ∙ (sym (shown (figures_end s 0) (value_from 0 w))
+    ∙ ap (λ (l : List ℕ). pick (number_to 0 (figures_end s 0) (value_from 0 l)).formed (Some (number_to 0 (figures_end s 0) (value_from 0 l)).value) None) all)
 
-module _ (s : List ℕ) (at end value : ℕ) (e : end ≡ figures_end s at) (n : end ≡ at → ⊥) (q : capped value ≡ capped (value_from 0 (part at end s))) where
-  pub is-long : greatest < value → no_number end ≡ number_at s at
-  unfolding number_at
-  is-long h = subst (λ (k : ℕ). no_number end ≡ number_to at k (value_from 0 (part at k s))) e (too_long at end value (value_from 0 (part at end s)) n h q)
-
-  pub is-fine : value ≤ greatest → a_number value end ≡ number_at s at
-  unfolding number_at
-  is-fine h = subst (λ (k : ℕ). a_number value end ≡ number_to at k (value_from 0 (part at k s))) e (fits at end value (value_from 0 (part at end s)) n h q)
+pub behind : (s : List ℕ) → drop (figures_end s 0) s ≡ behind_number s
+unfolding number_at
+behind s = ap (λ (n : ℕ). drop n s) (sym (after (figures_end s 0) (value_from 0 (part 0 (figures_end s 0) s))))

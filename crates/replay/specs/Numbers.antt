@@ -1,10 +1,15 @@
 -- docs/REPLAY.md: "A number is one or more decimal figures, leading zeros allowed, and at most 4,294,967,295."
 -- Internal contract.
-use Rattle.std.specs.Prelude.{Bool, true, false, not, List, [], ◌∷◌, ℕ, ◌+◌, ◌*◌, ◌%◌, ltb, eqb}
+use Rattle.std.specs.Prelude.{Bool, true, false, not, List, [], ◌∷◌, ℕ, ◌+◌, ◌*◌, ◌%◌, ltb, eqb, length, drop, Option, Some, None}
 use Rattle.lists.specs.Choice.{pick}
 use Rattle.lists.specs.Lists.{index_from, part}
 use Rattle.words.specs.Bytes.{digit}
-use Rattle.replay.specs.declared.parsing.Number.{Number}
+
+-- a number that is looked for at a place: whether it is well-formed, its value, and where its figures end
+pub record Number : Type 0 where
+  pub formed : Bool
+  pub value : ℕ
+  pub next : ℕ
 
 abbrev pub greatest : ℕ
 greatest = 4294967295
@@ -21,14 +26,6 @@ unfoldable pub value_from : ℕ → List ℕ → ℕ
 value_from v [] = v
 value_from v (x ∷ xs) = value_from (v * 10 + x % 16) xs
 
--- the same with every number past the greatest taken for one
-abbrev pub capped : ℕ → ℕ
-capped n = pick (ltb greatest n) 4294967296 n
-
--- one figure more, as the code has it: past the greatest number it stays where it is
-abbrev pub grown_by : ℕ → ℕ → ℕ
-grown_by v x = pick (ltb greatest v) v (v * 10 + x % 16)
-
 abbrev pub no_number : ℕ → Number
 no_number next = record { formed = false; value = 0; next = next }
 
@@ -41,3 +38,14 @@ number_to at end value = pick (eqb end at) (no_number end) (pick (ltb greatest v
 
 unfoldable pub number_at : List ℕ → ℕ → Number
 number_at s at = number_to at (figures_end s at) (value_from 0 (part at (figures_end s at) s))
+
+-- the number at the front of what is left of a script, where there is one, and what is left behind its figures
+abbrev pub front_number : List ℕ → Option ℕ
+front_number s = pick (number_at s 0).formed (Some (number_at s 0).value) None
+
+abbrev pub behind_number : List ℕ → List ℕ
+behind_number s = drop (number_at s 0).next s
+
+-- the value of a run of figures: none of no figure, and none past the greatest
+abbrev pub value_in : List ℕ → Option ℕ
+value_in w = pick (eqb (length w) 0) None (pick (ltb greatest (value_from 0 w)) None (Some (value_from 0 w)))
