@@ -1,7 +1,7 @@
 -- 01, the refusals of the board by name: "Post: 36 not a good board; 16 clock outside its range; 17 clock before the board's; 13; 15 a test;
 -- 18 no start; 19 no end, or no start of a target; 20 end at or before the clock; 22 a report whose identity is marked; 21 a report held with
 -- the same or a later correction, or a cancellation whose target is marked; 23 a new place needed and all 64 in use after the dropping".
--- Believed.
+-- Internal contract.
 use Rattle.std.specs.Prelude.{ℕ, Result, Ok, Err}
 use Rattle.places.specs.declared.refusals.Refusal.{Refusal}
 use Rattle.places.specs.declared.refusals.Refusal.TheVariants.{BadRecord, Test, ClockOutOfRange, ClockGoesBack, NoStart, NoEnd, Ended, Held, Marked, Full, BadBoard}
