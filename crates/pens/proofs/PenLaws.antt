@@ -10,22 +10,21 @@ use lib.Seq.{take-suc, sets, sets-eq}
 use borrow.Author.Tests.{lt-ltb}
 use Rattle.lists.specs.Base.{places}
 use Rattle.words.specs.Words.{line}
-use Rattle.figures.specs.Codes.{FixedWord, spell_code}
-use Rattle.pens.specs.Pens.{Pen, pen, stroke, strokes, Puts, spaced, Words, Line, shifted}
+use Rattle.pens.specs.Pens.{Pen, pen, stroke, strokes, Puts, spaced, Words, shifted}
 
 -- Texts.
 
-strokes-append : (a b : List ℕ) (p : Pen) → strokes (a ++ b) p ≡ strokes b (strokes a p)
+pub strokes_append : (a b : List ℕ) (p : Pen) → strokes (a ++ b) p ≡ strokes b (strokes a p)
 unfolding strokes
-strokes-append [] b p = refl
-strokes-append (x ∷ a) b p = strokes-append a b (stroke x p)
+strokes_append [] b p = refl
+strokes_append (x ∷ a) b p = strokes_append a b (stroke x p)
 
 pub nothing : {at : ℕ} {page : List ℕ} → Puts [] at page at page
 unfolding strokes
 nothing = record { says = refl }
 
 pub then : {a b : List ℕ} {at n m : ℕ} {page p q : List ℕ} → Puts a at page n p → Puts b n p m q → Puts (a ++ b) at page m q
-then {a} {b} {at} {n} {m} {page} f g = record { says = strokes-append a b (pen at page) ∙ (ap (strokes b) f.says ∙ g.says) }
+then {a} {b} {at} {n} {m} {page} f g = record { says = strokes_append a b (pen at page) ∙ (ap (strokes b) f.says ∙ g.says) }
 
 -- the same byte by another name
 pub put-alike : {x y at next : ℕ} {page after : List ℕ} → x ≡ y → Puts (x ∷ []) at page next after → Puts (y ∷ []) at page next after
@@ -55,10 +54,10 @@ place-more first base (suc k) n h f g =
 
 -- Words.
 
-spaced-append : (a b : List (List ℕ)) → spaced (a ++ b) ≡ spaced a ++ spaced b
+pub spaced_append : (a b : List (List ℕ)) → spaced (a ++ b) ≡ spaced a ++ spaced b
 unfolding spaced
-spaced-append [] b = refl
-spaced-append (w ∷ a) b = rw (spaced-append a b, append_assoc w (spaced a) (spaced b))
+spaced_append [] b = refl
+spaced_append (w ∷ a) b = rw (spaced_append a b, append_assoc w (spaced a) (spaced b))
 
 pub no_words : {at : ℕ} {page : List ℕ} → Words [] at page at page
 unfolding strokes spaced
@@ -66,50 +65,17 @@ no_words = record { says = refl }
 
 pub and_then : {a b : List (List ℕ)} {at n m : ℕ} {page p q : List ℕ} → Words a at page n p → Words b n p m q → Words (a ++ b) at page m q
 and_then {a} {b} {at} {n} {m} {page} f g =
-    record { says = ap (λ (t : List ℕ). strokes t (pen at page)) (spaced-append a b) ∙ (strokes-append (spaced a) (spaced b) (pen at page) ∙ (ap (strokes (spaced b)) f.says ∙ g.says)) }
-
--- a word by another name
-pub renamed : {v w : List ℕ} {at n : ℕ} {page p : List ℕ} → v ≡ w → Words (v ∷ []) at page n p → Words (w ∷ []) at page n p
-renamed e f = rw e at f
-
--- a fixed word by its code
-pub fixed : {k : List ℕ} {code : ℕ} {at n : ℕ} {page p : List ℕ} → FixedWord k code → Words (spell_code code ∷ []) at page n p → Words (k ∷ []) at page n p
-fixed w f = renamed w.spelled f
-
--- a space begins a word of no byte yet
-pub a-space : {at n : ℕ} {page p : List ℕ} → Puts (32 ∷ []) at page n p → Words ([] ∷ []) at page n p
-unfolding spaced
-a-space f = record { says = f.says }
-
--- a word goes on
-pub goes_on : {w x : List ℕ} {at n m : ℕ} {page p q : List ℕ} → Words (w ∷ []) at page n p → Puts x n p m q → Words ((w ++ x) ∷ []) at page m q
-unfolding spaced
-goes_on {w} {x} {at} {n} {m} {page} f g =
-    let whole : spaced ((w ++ x) ∷ []) ≡ spaced (w ∷ []) ++ x = rw (append-nil (w ++ x), append-nil w) in
-    record { says = ap (λ (t : List ℕ). strokes t (pen at page)) whole ∙ (strokes-append (spaced (w ∷ [])) x (pen at page) ∙ (ap (strokes x) f.says ∙ g.says)) }
+    record { says = ap (λ (t : List ℕ). strokes t (pen at page)) (spaced_append a b) ∙ (strokes_append (spaced a) (spaced b) (pen at page) ∙ (ap (strokes (spaced b)) f.says ∙ g.says)) }
 
 -- Lines.
 
-line-spaced : (w : List ℕ) (ws : List (List ℕ)) → line (w ∷ ws) ≡ w ++ spaced ws
+pub line_spaced : (w : List ℕ) (ws : List (List ℕ)) → line (w ∷ ws) ≡ w ++ spaced ws
 unfolding line spaced
-line-spaced w [] = sym (append-nil w)
-line-spaced w (v ∷ ws) = ap (λ (t : List ℕ). w ++ (32 ∷ t)) (line-spaced v ws)
+line_spaced w [] = sym (append-nil w)
+line_spaced w (v ∷ ws) = ap (λ (t : List ℕ). w ++ (32 ∷ t)) (line_spaced v ws)
 
-pub a-line : {w : List ℕ} {ws : List (List ℕ)} {at n m : ℕ} {page p q : List ℕ} → Puts w at page n p → Words ws n p m q → Line (w ∷ ws) at page m q
-a-line {w} {ws} {at} {n} {m} {page} f g =
-    record { says = ap (λ (t : List ℕ). strokes t (pen at page)) (line-spaced w ws) ∙ (strokes-append w (spaced ws) (pen at page) ∙ (ap (strokes (spaced ws)) f.says ∙ g.says)) }
-
--- a line goes on
-pub line_on : {w : List ℕ} {ws vs : List (List ℕ)} {at n m : ℕ} {page p q : List ℕ} → Line (w ∷ ws) at page n p → Words vs n p m q
-    → Line (w ∷ (ws ++ vs)) at page m q
-line_on {w} {ws} {vs} {at} {n} {m} {page} f g =
-    let whole : line (w ∷ (ws ++ vs)) ≡ line (w ∷ ws) ++ spaced vs =
-    line-spaced w (ws ++ vs) ∙ (ap (λ (t : List ℕ). w ++ t) (spaced-append ws vs) ∙ (sym (append_assoc w (spaced ws) (spaced vs)) ∙ ap (λ (t : List ℕ). t ++ spaced vs) (sym (line-spaced w ws)))) in
-    record { says = ap (λ (t : List ℕ). strokes t (pen at page)) whole ∙ (strokes-append (line (w ∷ ws)) (spaced vs) (pen at page) ∙ (ap (strokes (spaced vs)) f.says ∙ g.says)) }
-
--- a line is a text
-pub line-text : {ws : List (List ℕ)} {at n : ℕ} {page p : List ℕ} → Line ws at page n p → Puts (line ws) at page n p
-line-text f = record { says = f.says }
+-- what is put in turn is put as one: texts, words and the words of a line
+pub ruleset in_turn = (strokes_append, spaced_append, line_spaced)
 
 -- Room.
 

@@ -45,6 +45,7 @@ pub fn put_all(out: &mut [u8], at: usize, text: &[u8]) -> usize
 }
 
 // A space, and a word behind it.
+#[tactic(auto, using(crate::proofs::PenLaws::in_turn), unfolding(crate::specs::Pens::strokes, crate::specs::Pens::spaced))]
 pub fn put_word(out: &mut [u8], at: usize, word: &[u8]) -> usize
     ensures { Words (word.now ∷ []) at out.old result out.new }
 {
@@ -98,6 +99,7 @@ pub fn put_code(out: &mut [u8], at: usize, code: u64) -> usize
 }
 
 // A space, and the word of a code behind it.
+#[tactic(auto, using(crate::proofs::PenLaws::in_turn), unfolding(crate::specs::Pens::strokes, crate::specs::Pens::spaced))]
 pub fn put_fixed(out: &mut [u8], at: usize, code: u64) -> usize
     ensures { Words (spell_code code ∷ []) at out.old result out.new }
 {

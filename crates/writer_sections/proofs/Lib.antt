@@ -2,5 +2,4 @@ pub mod Tables
 pub mod Moves
 pub mod RecordLaws
 pub mod SectionLaws
-pub mod Sentences
 pub mod Determined

@@ -3,7 +3,7 @@ use mathlib.Core.Bool.{Bool, true, false, not}
 use mathlib.Core.List.{List}
 use mathlib.Core.Path.{◌≡◌, sym, ◌∙◌}
 use Prim.Native.Nat.{ℕ, ◌≤◌}
-use borrow.Author.Tests.{not-true, not-false}
+use borrow.Author.Tests.{not-true}
 use Rattle.lists.proofs.Choice.{both_left}
 use Rattle.words.proofs.Ranges.{between-low, between-high}
 use Rattle.pens.specs.Pens.{Puts}
@@ -24,10 +24,6 @@ use Rattle.message.specs.Records.{good_form, good}
 use Rattle.message.specs.Reports.{good_volcano}
 use Rattle.message.proofs.Goodness.{good-parts, area-parts, name-parts, outline-parts, forecast-parts, report-parts, volcano-parts}
 use Rattle.writer_sections.specs.Sections.{good_text, GoodReport, GoodPhenomenon, GoodMount, GoodEnding}
-
--- what a test of the record found
-pub found-good : (r : Record) {found : Bool} → found ≡ good r → not found ≡ false → good r ≡ true
-found-good r e f = sym e ∙ not-false _ f
 
 pub bad-record : (r : Record) {found : Bool} {page : List ℕ} → found ≡ good r → not found ≡ true → Puts (good_text r) 0 page 0 page
 bad-record r e f = rw (sym e ∙ not-true _ f) nothing

@@ -17,51 +17,30 @@ use Rattle.lists.proofs.Choice.{by, clash, both_left, both_right, both-false-lef
 use Rattle.lists.proofs.Lists.{same-is}
 use Rattle.words.proofs.Ranges.{between-low, between-high}
 use Rattle.figures.specs.Codes.{FixedWord, spell_code}
-use Rattle.figures.specs.Figures.{in_figures}
-use Rattle.coordinates.specs.declared.Coordinate.{Coordinate}
 use Rattle.coordinates.specs.declared.Point.{Point}
-use Rattle.coordinates.specs.Coordinates.{Axis, north_south, east_west, spell_coordinate}
+use Rattle.coordinates.specs.Coordinates.{Axis, north_south, east_west}
 use Rattle.coordinates.specs.Points.{point_words}
-use Rattle.groups.specs.Groups.{spell_time}
 use Rattle.names.specs.Names.{onto, pieces}
 use Rattle.names.proofs.NameLaws.{pieces-some}
-use Rattle.pens.specs.Pens.{pen, strokes, spaced, Puts, Words}
+use Rattle.pens.specs.Pens.{pen, strokes, spaced, Words}
 use Rattle.writer_sections.specs.declared.pen.Pen.{Pen}
 use Rattle.writer_sections.specs.Moves.{Moved}
-use Rattle.writer_sections.proofs.Moves.{then, no_words, and_then, renamed, fixed, a-space, goes_on}
+use Rattle.writer_sections.proofs.Moves.{no_words, and_then, renamed, fixed}
 use Rattle.message.specs.declared.Bound.{Bound}
 use Rattle.message.specs.declared.Name.{Name}
-use Rattle.message.specs.declared.Observation.{Observation}
 use Rattle.message.specs.declared.Side.{Side}
 use Rattle.message.specs.declared.Volcano.{Volcano}
 use Rattle.message.specs.Limits.{name_bytes, mountain_limit, eruption}
 use Rattle.message.specs.Locations.{good_side, empty_side, good_bound, side_words, bound_words, dashed, joined}
 use Rattle.message.specs.Names.{good_name, empty_name, unused_zero, name_words}
-use Rattle.message.specs.Reports.{phenomena, good_volcano, mount_words, volcano_words, phenomenon_words, observation_words}
-use Rattle.message.specs.Words.{correction_words}
+use Rattle.message.specs.Reports.{phenomena, good_volcano, mount_words}
 use Rattle.message.proofs.Goodness.{name-parts, side-parts, bound-cases, phenomenon-cases}
-use Rattle.writer_sections.specs.Sections.{GoodPhenomenon, GoodMount, named_words, first_word, second_word, freezing_rain, observed_word}
+use Rattle.writer_sections.specs.Sections.{GoodPhenomenon, GoodMount, named_words, first_word, second_word, freezing_rain}
 use Rattle.writer_sections.proofs.Tables.{stretched}
 
 -- Letters that may be missing: a letter 0 is none.
 
-pub no-correction : {letter : ℕ} {p0 : Pen} → letter ≡ 0 → Moved (Words (correction_words letter)) p0 p0
-no-correction e = rw e no_words
-
-pub a-correction : {letter : ℕ} {p0 p1 p2 : Pen} → (letter ≡ 0 → ⊥) → Moved (Words (bytes "CC" ∷ [])) p0 p1 → Moved (Puts (letter ∷ [])) p1 p2 → Moved (Words (correction_words letter)) p0 p2
-a-correction {letter} h f g = rw (ne_eqb letter 0 h) (goes_on f g)
-
 -- Coordinates.
-
--- degrees alone
-pub in-degrees : (a : Axis) (c : Coordinate) {p0 p1 p2 p3 : Pen} → c.digits ≡ a.width → Moved (Puts (32 ∷ [])) p0 p1 → Moved (Puts (c.letter ∷ [])) p1 p2 → Moved (Puts (in_figures a.width c.degrees)) p2 p3 → Moved (Words (spell_coordinate a c ∷ [])) p0 p3
-unfolding spell_coordinate
-in-degrees a c e f g h = rw (eq-eqb c.digits a.width e, append-nil) (goes_on (a-space f) (then g h))
-
--- … and minutes
-pub in-minutes : (a : Axis) (c : Coordinate) {p0 p1 p2 p3 p4 : Pen} → (c.digits ≡ a.width → ⊥) → Moved (Puts (32 ∷ [])) p0 p1 → Moved (Puts (c.letter ∷ [])) p1 p2 → Moved (Puts (in_figures a.width c.degrees)) p2 p3 → Moved (Puts (in_figures 2 c.minutes)) p3 p4 → Moved (Words (spell_coordinate a c ∷ [])) p0 p4
-unfolding spell_coordinate
-in-minutes a c e f g h i = rw (ne_eqb c.digits a.width e) (goes_on (a-space f) (then g (then h i)))
 
 -- Names.
 
@@ -161,23 +140,7 @@ pub eruption-named : (n : ℕ) {v : List ℕ} {p0 p1 p2 : Pen} → n ≡ eruptio
 unfolding phenomena
 eruption-named n e d f g = rw e (and_then (rw e at (renamed d f)) g)
 
-pub erupted : (n : ℕ) (v : Volcano) {p0 p1 p2 : Pen} → n ≡ eruption → Moved (Words (named_words n)) p0 p1 → Moved (Words (volcano_words v)) p1 p2 → Moved (Words (phenomenon_words n v)) p0 p2
-unfolding phenomenon_words
-erupted n v e f g = rw (eq-eqb n eruption e) (and_then f g)
-
-pub not-erupted : (n : ℕ) (v : Volcano) {p0 p1 : Pen} → (n ≡ eruption → ⊥) → Moved (Words (named_words n)) p0 p1 → Moved (Words (phenomenon_words n v)) p0 p1
-unfolding phenomenon_words
-not-erupted n v h f = rw (ne_eqb n eruption h, append-nil) f
-
 -- Observations.
-
-pub untimed : (o : Observation) {v : List ℕ} {p0 p1 : Pen} → o.timed ≡ false → v ≡ observed_word o.word → Moved (Words (v ∷ [])) p0 p1 → Moved (Words (observation_words o)) p0 p1
-unfolding observation_words
-untimed o t e f = rw t (renamed e f)
-
-pub timed : (o : Observation) {v : List ℕ} {code : ℕ} {p0 p1 p2 p3 : Pen} → o.timed ≡ true → v ≡ observed_word o.word → Moved (Words (v ∷ [])) p0 p1 → FixedWord (bytes "AT") code → Moved (Words (spell_code code ∷ [])) p1 p2 → Moved (Words (spell_time o.time ∷ [])) p2 p3 → Moved (Words (observation_words o)) p0 p3
-unfolding observation_words
-timed o t e f k g h = rw t (and_then (renamed e f) (and_then (fixed k g) h))
 
 -- Bounds.
 

@@ -1,4 +1,6 @@
 // The area: four letters, its name, and the closing word `FIR`, `FIR/UIR` or `CTA`.
+#![tactic(auto, using(pens::proofs::PenLaws::in_turn), unfolding(pens::specs::Pens::strokes, pens::specs::Pens::spaced, figures::specs::Codes::behind_one, message::specs::Words::area_words))]
+
 ghost use Rattle.std.specs.Prelude.{◌≡◌, ◌≤◌};
 ghost use Rattle.figures.specs.Codes.{spell_code};
 ghost use Rattle.figures.specs.Tables.{numbered};

@@ -1,4 +1,6 @@
 // The ending: how the phenomenon moves, or that it does not, and its intensity; or its intensity and where it is forecast to be.
+#![tactic(auto, using(pens::proofs::PenLaws::in_turn), unfolding(pens::specs::Pens::strokes, pens::specs::Pens::spaced, figures::specs::Codes::behind_one, motions::specs::Speeds::spell_speed, message::specs::Reports::ending_words))]
+
 ghost use Rattle.std.specs.Prelude.{true, [], ◌∷◌, ◌≡◌};
 ghost use Rattle.figures.specs.Codes.{spell_code};
 ghost use Rattle.figures.specs.Tables.{numbered};
@@ -108,7 +110,6 @@ impl Pen<'_> {
         self.extent(setting.closing, forecast);
     }
 
-    #[tactic(auto, using(crate::proofs::Moves::no_words), unfolding(message::specs::Reports::ending_words))]
     pub(crate) fn ending(&mut self, setting: Setting, ending: Ending, forecast: Extent)
         requires { GoodEnding ending forecast }
         ensures { Moved (Words (ending_words setting.end setting.closing ending forecast)) self.old self.new }

@@ -1,5 +1,7 @@
 // The first line, which follows the heading: unit, `SIGMET` and its sequence, `VALID` and its period, and the office. A cancellation has a
 // sequence and a period too.
+#![tactic(auto, using(pens::proofs::PenLaws::in_turn), unfolding(pens::specs::Pens::strokes, pens::specs::Pens::spaced, figures::specs::Codes::behind_one, groups::specs::Groups::spell_period, headings::specs::Sequences::spell_sequence, message::specs::Words::line_words))]
+
 ghost use Rattle.std.specs.Prelude.{[], ◌∷◌};
 ghost use Rattle.groups.specs.Groups.{spell_period};
 ghost use Rattle.headings.specs.Headings.{spell_office};
@@ -15,7 +17,6 @@ use message::FirstLine;
 
 impl Pen<'_> {
     // The letter of a sequence; letter 0 is none.
-    #[tactic(auto, using(crate::proofs::Moves::nothing))]
     fn letter(&mut self, letter: u8)
         ensures { Moved (Puts (letter_of letter)) self.old self.new }
     {

@@ -1,4 +1,6 @@
 // What follows the area: a test, a cancellation or a report.
+#![tactic(auto, using(pens::proofs::PenLaws::in_turn), unfolding(pens::specs::Pens::strokes, pens::specs::Pens::spaced, figures::specs::Codes::behind_one, message::specs::Words::test_texts, message::specs::Words::form_words))]
+
 ghost use Rattle.std.specs.Prelude.{true, [], ◌∷◌, ◌≡◌, ◌≤◌};
 ghost use Rattle.lists.specs.Text.{bytes};
 ghost use Rattle.message.specs.Records.{good};
@@ -44,7 +46,6 @@ impl Pen<'_> {
         self.please_disregard();
     }
 
-    #[tactic(auto, unfolding(message::specs::Words::test_texts, figures::specs::Codes::behind_one))]
     fn test(&mut self, n: u8)
         requires { (1 ≤ n) × (n ≤ 3) }
         ensures { Moved (Words (test_words n)) self.old self.new }
@@ -66,7 +67,6 @@ impl Pen<'_> {
     }
 
     // A cancellation's second group, and a forecast's time, are those of the end of VALID.
-    #[tactic(auto, using(crate::proofs::Moves::no_words), unfolding(message::specs::Words::form_words))]
     pub(crate) fn form(&mut self, r: Record)
         requires { good r ≡ true }
         ensures { Moved (Words (form_words r r.form)) self.old self.new }

@@ -1,4 +1,6 @@
 // The heading: designator, centre, the group of day and time at which it was sent, and perhaps a correction.
+#![tactic(auto, using(pens::proofs::PenLaws::in_turn), unfolding(pens::specs::Pens::strokes, pens::specs::Pens::spaced, figures::specs::Codes::behind_one, headings::specs::Headings::spell_designator, groups::specs::Groups::spell_group, message::specs::Words::heading_words))]
+
 ghost use Rattle.std.specs.Prelude.{[], ◌∷◌, ◌≡◌};
 ghost use Rattle.figures.specs.Codes.{spell_code};
 ghost use Rattle.figures.specs.Letters.{in_letters};

@@ -1,4 +1,6 @@
 // The level: one word, or a flight level behind `TOP`, `ABV` or `TOP ABV`.
+#![tactic(auto, using(pens::proofs::PenLaws::in_turn), unfolding(pens::specs::Pens::strokes, pens::specs::Pens::spaced, figures::specs::Codes::behind_one, levels::specs::Levels::level_words, levels::specs::Levels::spell_level_word))]
+
 ghost use Rattle.std.specs.Prelude.{[], ◌∷◌, ◌++◌};
 ghost use Rattle.lists.specs.Text.{bytes};
 ghost use Rattle.figures.specs.Codes.{spell_code};
@@ -64,7 +66,6 @@ impl Pen<'_> {
         self.code(vocabulary::FT);
     }
 
-    #[tactic(auto, using(crate::proofs::Moves::no_words), unfolding(levels::specs::Levels::level_words, levels::specs::Levels::spell_level_word, figures::specs::Codes::behind_one))]
     pub(crate) fn level(&mut self, level: Level)
         ensures { Moved (Words (level_words level)) self.old self.new }
     {

@@ -36,6 +36,7 @@ impl Pen<'_> {
     }
 
     // The body: the area, and then a test, a cancellation or a report.
+    #[tactic(auto, using(pens::proofs::PenLaws::in_turn), unfolding(pens::specs::Pens::strokes, pens::specs::Pens::spaced, figures::specs::Codes::behind_one, message::specs::Words::area_words, message::specs::Words::body_words))]
     fn body(&mut self, r: Record)
         requires { good r ≡ true }
         ensures { Moved (Line (body_words r)) self.old self.new }
@@ -45,6 +46,7 @@ impl Pen<'_> {
     }
 
     // The canonical text.
+    #[tactic(auto, using(pens::proofs::PenLaws::in_turn), unfolding(pens::specs::Pens::strokes, pens::specs::Pens::spaced, figures::specs::Codes::behind_one, message::specs::Words::text_of))]
     fn text(&mut self, r: Record)
         requires { good r ≡ true }
         ensures { Moved (Puts (text_of r)) self.old self.new }

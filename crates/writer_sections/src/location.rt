@@ -1,4 +1,6 @@
 // A location: a bound, an outline or the entire area.
+#![tactic(auto, using(pens::proofs::PenLaws::in_turn), unfolding(pens::specs::Pens::strokes, pens::specs::Pens::spaced, figures::specs::Codes::behind_one, coordinates::specs::Coordinates::spell_coordinate, message::specs::Locations::extent_words))]
+
 ghost use Rattle.std.specs.Prelude.{true, [], ◌∷◌, ◌≡◌, ◌≤◌};
 ghost use Rattle.coordinates.specs.Coordinates.{spell_coordinate};
 ghost use Rattle.coordinates.specs.Points.{point_words};
@@ -100,7 +102,6 @@ impl Pen<'_> {
         self.fixed(entire_word(closing));
     }
 
-    #[tactic(auto, using(crate::proofs::Moves::no_words), unfolding(message::specs::Locations::extent_words))]
     pub(crate) fn extent(&mut self, closing: u8, e: Extent)
         requires { good_extent e ≡ true }
         ensures { Moved (Words (extent_words closing e)) self.old self.new }

@@ -1,4 +1,6 @@
 // The observation: `OBS` or `FCST`, and perhaps `AT` and a time of day.
+#![tactic(auto, using(pens::proofs::PenLaws::in_turn), unfolding(pens::specs::Pens::strokes, pens::specs::Pens::spaced, figures::specs::Codes::behind_one, groups::specs::Groups::spell_time, message::specs::Reports::observation_words))]
+
 ghost use Rattle.std.specs.Prelude.{[], ◌∷◌, ◌≡◌};
 ghost use Rattle.figures.specs.Codes.{spell_code};
 ghost use Rattle.groups.specs.Groups.{spell_time};

@@ -1,4 +1,6 @@
 // The phenomenon, which a record keeps as a number from 1 to 17, and the volcano of an eruption.
+#![tactic(auto, using(pens::proofs::PenLaws::in_turn), unfolding(pens::specs::Pens::strokes, pens::specs::Pens::spaced, figures::specs::Codes::behind_one, message::specs::Reports::phenomenon_words))]
+
 ghost use Rattle.std.specs.Prelude.{true, ◌≡◌, ◌≤◌};
 ghost use Rattle.figures.specs.Codes.{spell_code};
 ghost use Rattle.message.specs.Limits.{ash_cloud, eruption};

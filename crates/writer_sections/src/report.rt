@@ -1,4 +1,6 @@
 // A report: phenomenon, observation, location, level, then the ending.
+#![tactic(auto, using(pens::proofs::PenLaws::in_turn), unfolding(pens::specs::Pens::strokes, pens::specs::Pens::spaced, figures::specs::Codes::behind_one, message::specs::Reports::report_words))]
+
 ghost use Rattle.message.specs.Reports.{report_words};
 ghost use Rattle.pens.specs.Pens.{Words};
 ghost use Rattle.writer_sections.specs.Moves.{Moved};

