@@ -1,7 +1,6 @@
 -- A value where it passes the test, and nothing where it does not.
 use mathlib.Core.Bool.{Bool, true, false}
-use mathlib.Core.Path.{◌≡◌, refl, ap, sym, ◌∙◌}
-use Rattle.std.specs.Bool.{then_some}
+use mathlib.Core.Path.{◌≡◌, refl, sym, ◌∙◌}
 use Rattle.std.specs.Prelude.{Option, None, Some}
 use Rattle.std.proofs.lemmas.Option.{none-some, same_Some}
 use Rattle.lists.specs.Choice.{pick, found}
@@ -14,9 +13,6 @@ found-some good e g = rw (← e, g) refl
 
 pub found-none : {A : Type 0} {v u : A} (good : A → Bool) → u ≡ v → good u ≡ false → None ≡ found good v
 found-none good e g = rw (← e, g) refl
-
-pub then-found : {A : Type 0} (good : A → Bool) (v : A) → then_some (good v) v ≡ found good v
-then-found good v = by (good v) (λ t. rw t refl) (λ t. rw t refl)
 
 -- What was found is the value, which passes the test; and where nothing was found it does not.
 

@@ -54,8 +54,7 @@ fn unpad(n: u32) -> Option<Sequence>
 {
     let [_, a, b, c] = n.to_be_bytes();
     let text = [a, b, c];
-    let s = sequence_word(&text[..before_space(text)]);
-    good_sequence(s).then_some(s)
+    sequence_word(&text[..before_space(text)])
 }
 
 #[tactic(auto, using(crate::proofs::PaddedLaws::held_good, crate::proofs::PaddedLaws::held_bad))]
