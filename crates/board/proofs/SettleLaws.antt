@@ -56,7 +56,7 @@ pub spot-held : (ps : List Place) (p : Place) {o : Option ℕ} {k : ℕ} → len
     → 0 ≡ objection (get_or ps k no_place) p → Finds ps p (Ok k)
 unfolding spot_of
 spot-held ps p {k = k} l e f z =
-    let w = found-is (λ i. ltb i (length ps)) {v = index_of (holds p.identity) ps} (sym (position-found (holds p.identity) ps) ∙ sym e ∙ f) in
+    let w = found-is {v = index_of (holds p.identity) ps} (λ i. ltb i (length ps)) (sym (position-found (holds p.identity) ps) ∙ sym e ∙ f) in
     let h : ltb k (length ps) ≡ true = ap (λ i. ltb i (length ps)) (sym w.0) ∙ w.1 in
     (rw (w.0, h, ← z), omega (arith, ltb-true k (length ps) h))
 
@@ -64,14 +64,14 @@ pub spot-refused : (ps : List Place) (p : Place) {o : Option ℕ} {k : ℕ} → 
     → (e : Refusal) → number_of e ≡ objection (get_or ps k no_place) p → Finds ps p (Err e)
 unfolding spot_of
 spot-refused ps p {k = k} e f x z =
-    let w = found-is (λ i. ltb i (length ps)) {v = index_of (holds p.identity) ps} (sym (position-found (holds p.identity) ps) ∙ sym e ∙ f) in
+    let w = found-is {v = index_of (holds p.identity) ps} (λ i. ltb i (length ps)) (sym (position-found (holds p.identity) ps) ∙ sym e ∙ f) in
     rw (w.0, ap (λ i. ltb i (length ps)) (sym w.0) ∙ w.1, z)
 
 pub spot-new : (ps : List Place) (p : Place) {o free : Option ℕ} {r : Result ℕ Refusal} → length ps ≡ place_count → o ≡ position (holds p.identity) ps → o ≡ None
     → free ≡ position empty_place ps → r ≡ ok_or free Full → Finds ps p r
 unfolding spot_of
 spot-new ps p {r = r} l e f g h =
-    let w = found-out (λ i. ltb i (length ps)) {v = index_of (holds p.identity) ps} (sym (position-found (holds p.identity) ps) ∙ sym e ∙ f) in
+    let w = found-out {v = index_of (holds p.identity) ps} (λ i. ltb i (length ps)) (sym (position-found (holds p.identity) ps) ∙ sym e ∙ f) in
     let x : r ≡ ok_or (found (λ i. ltb i (length ps)) (index_of empty_place ps)) Full = rw (h, g, position-found empty_place ps) refl in
     by (ltb (index_of empty_place ps) (length ps))
     (λ t. rw (x, t) (rw (w, t) refl, omega (arith, ltb-true _ _ t)))

@@ -74,13 +74,13 @@ unpads n e =
 pub held_good : (n : ℕ) {s : Sequence} → found good_sequence (sequence_of (unpadded n)) ≡ Some s → (good_sequence s ≡ true) × (eqb (padded_of s) n ≡ held_sequence n)
 unfolding held_sequence
 held_good n e =
-    let r = found-is good_sequence {v = sequence_of (unpadded n)} e in
+    let r = found-is {v = sequence_of (unpadded n)} good_sequence e in
     let g : good_sequence (sequence_of (unpadded n)) ≡ true = r.1 in
     (ap good_sequence (sym r.0) ∙ g, rw (← r.0, g, reads-spelled sequence-reads (unpadded n) g))
 
 pub held_bad : (n : ℕ) → found good_sequence (sequence_of (unpadded n)) ≡ None → false ≡ held_sequence n
 unfolding held_sequence
-held_bad n e = rw (found-out good_sequence {v = sequence_of (unpadded n)} e)
+held_bad n e = rw (found-out {v = sequence_of (unpadded n)} good_sequence e)
 
 -- Padding undone: three characters, none of them a space, are found again.
 
