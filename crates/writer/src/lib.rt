@@ -12,7 +12,7 @@ use writer_sections::put_text;
 // The numbers of the refusals.
 const BAD_RECORD: u8 = 13;
 
-const NO_ROOM: u8 = 14;
+const SHORT_BUFFER: u8 = 14;
 
 const TOO_LONG: u8 = 24;
 
@@ -32,10 +32,10 @@ pub fn write(message: Record, out: &mut [u8]) -> Written
         return refused(BAD_RECORD);
     }
     if MOST_BYTES < count {
-        return refused(TOO_LONG);
+        return refused(LONG_TEXT);
     }
     if out.len() < count {
-        return refused(NO_ROOM);
+        return refused(SHORT_BUFFER);
     }
     out[..count].copy_from_slice(&page[..count]);
     Written { number: 0, count }
