@@ -9,12 +9,14 @@ use message::Record;
 use pens::{Written, refused};
 use writer_sections::put_text;
 
-// The numbers of the refusals.
+// A record that is not good.
 const BAD_RECORD: u8 = 13;
 
-const NO_ROOM: u8 = 14;
+// A buffer shorter than the text.
+const SHORT_BUFFER: u8 = 14;
 
-const TOO_LONG: u8 = 24;
+// A text of more bytes than a text may have.
+const LONG_TEXT: u8 = 24;
 
 // The most bytes that a text may have. The page has one byte more, so that a longer text is seen.
 const MOST_BYTES: usize = 2048;
@@ -32,10 +34,10 @@ pub fn write(message: Record, out: &mut [u8]) -> Written
         return refused(BAD_RECORD);
     }
     if MOST_BYTES < count {
-        return refused(TOO_LONG);
+        return refused(LONG_TEXT);
     }
     if out.len() < count {
-        return refused(NO_ROOM);
+        return refused(SHORT_BUFFER);
     }
     out[..count].copy_from_slice(&page[..count]);
     Written { number: 0, count }

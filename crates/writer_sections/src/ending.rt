@@ -79,7 +79,7 @@ impl Pen<'_> {
         ensures { Moved (Words (spell_speed s ∷ [])) self.old self.new }
     {
         self.byte(b' ');
-        self.figures(s.value as u32, 2);
+        self.figures(u32::from(s.value), 2);
         self.code(unit_word(s.unit));
     }
 

@@ -31,7 +31,7 @@ impl Pen<'_> {
     {
         self.byte(b' ');
         self.letter(s.letter);
-        self.figures(s.number as u32, s.digits);
+        self.figures(u32::from(s.number), s.digits);
     }
 
     // Two groups with a `/` between.

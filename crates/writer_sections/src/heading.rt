@@ -36,7 +36,7 @@ impl Pen<'_> {
     {
         self.code(type_word(d.kind));
         self.letters(d.region, 2);
-        self.figures(d.number as u32, 2);
+        self.figures(u32::from(d.number), 2);
     }
 
     // A word of four letters, which a record keeps as one number.
@@ -51,9 +51,9 @@ impl Pen<'_> {
     pub(crate) fn group(&mut self, g: Group)
         ensures { Moved (Puts (spell_group g)) self.old self.new }
     {
-        self.figures(g.day as u32, 2);
-        self.figures(g.hour as u32, 2);
-        self.figures(g.minute as u32, 2);
+        self.figures(u32::from(g.day), 2);
+        self.figures(u32::from(g.hour), 2);
+        self.figures(u32::from(g.minute), 2);
     }
 
     // The same as a word of its own.

@@ -1,5 +1,5 @@
 // The sections of the writer: a good record is put onto a page as its canonical text. Each section of the text has a file here, and is a method of
-// the pen that puts it.
+// the pen that puts it. At its top the file names the definitions of its words, and the check finds that the calls put these in turn.
 #![tactic(auto)]
 
 ghost use Rattle.std.specs.Prelude.{true, ◌≡◌};

@@ -34,9 +34,9 @@ impl Pen<'_> {
     {
         self.byte(b' ');
         self.byte(c.letter);
-        self.figures(c.degrees as u32, figures);
+        self.figures(u32::from(c.degrees), figures);
         if c.digits != figures {
-            self.figures(c.minutes as u32, 2);
+            self.figures(u32::from(c.minutes), 2);
         }
     }
 
@@ -92,7 +92,7 @@ impl Pen<'_> {
         ensures { Moved (Words (outline_words n points)) self.old self.new }
     {
         self.fixed(vocabulary::WI);
-        self.points(&points[..n as usize]);
+        self.points(&points[..usize::from(n)]);
     }
 
     fn entire(&mut self, closing: u8)

@@ -29,8 +29,8 @@ impl Pen<'_> {
         ensures { Moved (Words (spell_time t ∷ [])) self.old self.new }
     {
         self.byte(b' ');
-        self.figures(t.hour as u32, 2);
-        self.figures(t.minute as u32, 2);
+        self.figures(u32::from(t.hour), 2);
+        self.figures(u32::from(t.minute), 2);
         self.byte(b'Z');
     }
 
