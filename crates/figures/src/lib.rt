@@ -60,7 +60,11 @@ pub fn three(w: &[u8]) -> Option<u16>
     ensures { result ≡ found (λ n. ltb n 1000) (three_of w.now) }
 {
     let count = figures(w)?;
-    if count < 1000 { Some(count as u16) } else { None }
+    if count < 1000 {
+        Some(count as u16)
+    } else {
+        None
+    }
 }
 
 // The code of a word of at most seven bytes: a 1 and then its bytes; 0, the code of no word, of a longer one.
