@@ -1,5 +1,6 @@
--- What the calls of a section have put are the words of its part of the record: one law for each return, whose premises are the facts that the
--- code has there, so that `search` finds them.
+-- What the calls of a section have put are the words of its part of the record, where the check does not find it by the definitions alone: names,
+-- mountains, the table of phenomena, bounds and outlines. One law for each return, whose premises are the facts that the code has there, so that
+-- `search` finds them.
 use mathlib.Core.Bool.{Bool, true, false}
 use mathlib.Core.List.{List, [], ◌∷◌, ◌++◌, append_assoc, append-nil}
 use mathlib.Core.Path.{◌≡◌, refl, ap, sym, ◌∙◌}
@@ -37,10 +38,6 @@ use Rattle.message.specs.Reports.{phenomena, good_volcano, mount_words}
 use Rattle.message.proofs.Goodness.{name-parts, side-parts, bound-cases, phenomenon-cases}
 use Rattle.writer_sections.specs.Sections.{GoodPhenomenon, GoodMount, named_words, first_word, second_word, freezing_rain}
 use Rattle.writer_sections.proofs.Tables.{stretched}
-
--- Letters that may be missing: a letter 0 is none.
-
--- Coordinates.
 
 -- Names.
 
@@ -139,8 +136,6 @@ three-named n i d f e g k h =
 pub eruption-named : (n : ℕ) {v : List ℕ} {p0 p1 p2 : Pen} → n ≡ eruption → v ≡ first_word n → Moved (Words (v ∷ [])) p0 p1 → Moved (Words (bytes "ERUPTION" ∷ [])) p1 p2 → Moved (Words (named_words n)) p0 p2
 unfolding phenomena
 eruption-named n e d f g = rw e (and_then (rw e at (renamed d f)) g)
-
--- Observations.
 
 -- Bounds.
 
