@@ -21,7 +21,8 @@ pub struct Board {
     pub places: [Place; Board::PLACES],
 }
 
-// The refusal number, 0 for an accepted post, and the board as it is afterwards.
+// The refusal number, 0 for an accepted post, and the board as it is afterwards. A struct and no Result: it is the paper's reply, and a refusal
+// has a board too, the one that was.
 #[derive(Clone, Copy, Debug, PartialEq, Eq)]
 pub struct Posted {
     pub answer: u8,

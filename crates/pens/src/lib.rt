@@ -8,7 +8,8 @@ ghost use Rattle.figures.specs.Codes.{spell_code};
 ghost use Rattle.figures.specs.Figures.{in_figures};
 ghost use Rattle.pens.specs.Pens.{Puts, Words, shifted};
 
-// What writing comes to: the refusal number, 0 for none, and the count of bytes written, 0 where refused.
+// What writing comes to: the refusal number, 0 for none, and the count of bytes written, 0 where refused. A struct and no Result, since this is
+// the paper's reply: "Count 0, buffer untouched".
 #[derive(Clone, Copy)]
 pub struct Written {
     pub number: u8,

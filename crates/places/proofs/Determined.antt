@@ -3,6 +3,8 @@ use Rattle.lists.proofs.Choice.{determined}
 use Rattle.lists.specs.Determined.{Determines}
 use Rattle.places.proofs.places.same_identity.Kinds as same-identity-kinds
 use Rattle.places.proofs.places.same_identity.Reads as same-identity-reads
+use Rattle.places.proofs.places.no_place.Kinds as no-place-kinds
+use Rattle.places.proofs.places.no_place.Reads as no-place-reads
 use Rattle.places.proofs.places.empty_place.Kinds as empty-place-kinds
 use Rattle.places.proofs.places.empty_place.Reads as empty-place-reads
 use Rattle.places.proofs.places.good_place.Kinds as good-place-kinds
@@ -15,6 +17,9 @@ use Rattle.places.proofs.claims.claim_of.Reads as claim-of-reads
 
 pub same-identity-determined : Determines 0 same-identity-kinds.ps same-identity-kinds.r same-identity-reads.Learnt
 same-identity-determined κs a r s x y p q = determined p q
+
+pub no-place-determined : Determines 0 no-place-kinds.ps no-place-kinds.r no-place-reads.Learnt
+no-place-determined κs a r s x y p q = determined p q
 
 pub empty-place-determined : Determines 0 empty-place-kinds.ps empty-place-kinds.r empty-place-reads.Learnt
 empty-place-determined κs a r s x y p q = determined p q

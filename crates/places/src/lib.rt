@@ -7,7 +7,7 @@ mod places;
 mod refusals;
 
 pub use claims::claim_of;
-pub use places::{NO_PLACE, empty_place, good_place, same_identity};
+pub use places::{NO_PLACE, empty_place, good_place, no_place, same_identity};
 pub use refusals::Refusal;
 
 // The type as its kind in the listing, 2 WS or 3 WV; the area's letters and the sequence's characters, filled up to three with spaces, in
@@ -21,7 +21,8 @@ pub struct Identity {
     pub end: u32,
 }
 
-// The correction is its letter, or 0 for none. All zero is an empty place.
+// The correction is its letter, or 0 for none. All zero is an empty place: values and no Options, for a board may come with any places, and
+// `good_place` and the theorems on any board judge and name them all.
 #[derive(Clone, Copy, Debug, PartialEq, Eq)]
 pub struct Place {
     pub identity: Identity,

@@ -1,6 +1,6 @@
 // One place of the board: empty, or an identity with a correction and a mark.
 ghost use Rattle.std.specs.Prelude.{◌≡◌};
-ghost use Rattle.places.specs.Places.{same_identity, empty_place, held_identity, held_correction, good_place};
+ghost use Rattle.places.specs.Places.{same_identity, no_place, empty_place, held_identity, held_correction, good_place};
 
 use crate::padding::held_sequence;
 use crate::{Identity, Place};
@@ -19,6 +19,12 @@ pub const NO_PLACE: Place = Place {
     correction: 0,
     marked: false,
 };
+
+pub fn no_place() -> Place
+    ensures { result ≡ no_place }
+{
+    NO_PLACE
+}
 
 #[tactic(auto, unfolding(crate::specs::Places::same_identity))]
 pub fn same_identity(a: Identity, b: Identity) -> bool

@@ -97,6 +97,7 @@ functions =
       writer-sections-put-text = writer-sections-laws.put-text-settles;
       writer-write = writer-laws.write-settles;
       places-same-identity = places-laws.same-identity-determined;
+      places-no-place = places-laws.no-place-determined;
       places-empty-place = places-laws.empty-place-determined;
       places-good-place = places-laws.good-place-determined;
       places-claim-of = places-laws.claim-of-determined;

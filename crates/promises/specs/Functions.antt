@@ -148,6 +148,8 @@ use Rattle.writer.proofs.write.Kinds as writer-write-kinds
 use Rattle.writer.proofs.write.Reads as writer-write-reads
 use Rattle.places.proofs.same_identity.Kinds as places-same-identity-kinds
 use Rattle.places.proofs.same_identity.Reads as places-same-identity-reads
+use Rattle.places.proofs.no_place.Kinds as places-no-place-kinds
+use Rattle.places.proofs.no_place.Reads as places-no-place-reads
 use Rattle.places.proofs.empty_place.Kinds as places-empty-place-kinds
 use Rattle.places.proofs.empty_place.Reads as places-empty-place-reads
 use Rattle.places.proofs.good_place.Kinds as places-good-place-kinds
@@ -259,6 +261,7 @@ pub record Functions : Type 0 where
   pub writer-write : Settles 1 writer-write-kinds.ps writer-write-kinds.r writer-write-reads.Learnt
   -- places
   pub places-same-identity : Determines 0 places-same-identity-kinds.ps places-same-identity-kinds.r places-same-identity-reads.Learnt
+  pub places-no-place : Determines 0 places-no-place-kinds.ps places-no-place-kinds.r places-no-place-reads.Learnt
   pub places-empty-place : Determines 0 places-empty-place-kinds.ps places-empty-place-kinds.r places-empty-place-reads.Learnt
   pub places-good-place : Determines 0 places-good-place-kinds.ps places-good-place-kinds.r places-good-place-reads.Learnt
   pub places-claim-of : Determines 0 places-claim-of-kinds.ps places-claim-of-kinds.r places-claim-of-reads.Learnt

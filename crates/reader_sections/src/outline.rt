@@ -87,7 +87,7 @@ fn next_point(step: Step, first: Point, count: usize, part: Part) -> Result<(Cor
     Ok((corner, step))
 }
 
-// The points after WI.
+// The points after WI. Counted by hand: how many there are is part of the record, each point is judged by it, and a word that is none ends all.
 pub(crate) fn read_outline(step: Step, part: Part) -> Result<(Extent, Step), Refused>
     ensures { LocatedSays (at_latitude []) part step.entry result }
 {

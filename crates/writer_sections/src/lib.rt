@@ -61,7 +61,7 @@ impl Pen<'_> {
 }
 
 // The canonical text of a good record from the front of the page on, as far as the page goes, and nothing of any other record. Answers with the
-// place behind it: 0 only where nothing was put.
+// place behind it: 0 only where nothing was put. (No Option: its row in `Functions` and `Puts` have the place on every record.)
 pub fn put_text(out: &mut [u8], r: Record) -> usize
     ensures { Puts (good_text r) 0 out.old result out.new }
 {
