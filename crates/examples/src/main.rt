@@ -1,41 +1,32 @@
 // Runs the example texts through the reader, and the records read through the writer, and compares each reply and each canonical text with the
 // expected one. They stand in the file `stdin`, a line each, and not in the source: a byte of a literal costs the checker a millisecond, and
-// every call more. Where standard output takes no more, or memory runs out, it ends with status 1 and the cause on standard error.
+// every call more. It reads and prints by the kit's `io`, and takes no memory from a heap: std's printing and `Vec` would stand on more functions
+// of the C library than `read` and `write`.
 #![tactic(auto)]
 
 mod rows;
 mod texts;
 
 use rows::Row;
-use std::alloc::Global;
-use std::io::{self, BufWriter, ErrorKind, Read, Write};
 
-// The most bytes of a table. Of a longer one the last replies would be missing.
-const MOST: u64 = 262144;
+// Room for the table. Of a longer one the last replies would be missing.
+const ROOM: usize = 262144;
 
-fn main(rt: HostRuntime) -> io::Result<()> {
-    let alloc = rt.alloc();
-    let table = input(&rt, alloc)?;
-    let mut out = BufWriter::new(alloc, io::writer(&rt))?;
+fn main() {
+    let mut table = [0u8; ROOM];
+    let n = io::read_full(0, &mut table);
     let mut right = 0u64;
     let mut wrong = 0u64;
-    for row in table.split(|byte| *byte == b'\n').filter_map(Row::parse) {
-        if row.judge(&mut out, alloc)? {
+    let lines = table[..n].split(|byte| *byte == b'\n');
+    for row in lines.filter_map(Row::parse) {
+        if row.judge() {
             right = right.saturating_add(1);
         } else {
             wrong = wrong.saturating_add(1);
         }
     }
-    writeln!(out, "{right} ok, {wrong} wrong")?;
-    out.flush()
-}
-
-// The table. A read that fails ends it like the end of the input. Each program has such a function of its own: the crates that they share are the
-// libraries, which take no memory from a heap.
-fn input(rt: &impl Input, alloc: Global) -> io::Result<Vec<u8>> {
-    let mut bytes = Vec::new(alloc);
-    match rt.reader().take(MOST).read_to_end(&mut bytes) {
-        Err(e) if e.kind() == ErrorKind::OutOfMemory => Err(e),
-        _ => Ok(bytes),
-    }
+    io::print_decimal(1, right);
+    io::write_all(1, b" ok, ");
+    io::print_decimal(1, wrong);
+    io::write_all(1, b" wrong\n");
 }

@@ -1,10 +1,8 @@
 // A row of the table: name, number, place, length and text, parted by single spaces. A line that begins with `#` and one with fewer parts are no rows.
-use crate::texts::unescaped;
+use crate::texts::{ROOM, unescape};
 use grammar::Reply;
 use message::Record;
 use reader::read;
-use std::alloc::{AllocError, Global};
-use std::io::{self, Write};
 use writer::write;
 
 #[derive(Clone, Copy)]
@@ -39,52 +37,71 @@ impl<'a> Row<'a> {
     }
 
     // Reads the text and prints its name, the reply, and what is wrong where something is. Is nothing wrong?
-    pub(crate) fn judge(&self, out: &mut impl Write, alloc: Global) -> io::Result<bool> {
-        let reply = read(&unescaped(alloc, self.text)?);
-        out.write_all(self.name)?;
-        write!(out, ": {} {} {}", reply.number, reply.place, reply.length)?;
-        if !self.expects(alloc, &reply)? {
-            self.tell_expected(out)?;
-            return Ok(false);
+    pub(crate) fn judge(&self) -> bool {
+        let mut text = [0; ROOM];
+        let n = unescape(self.text, &mut text);
+        let reply = read(&text[..n]);
+        io::write_all(1, self.name);
+        io::write_all(1, b":");
+        for number in numbers(&reply) {
+            io::write_all(1, b" ");
+            io::print_decimal(1, number);
         }
-        if reply.number == 0 && !self.is_written(out, alloc, reply.message)? {
-            return Ok(false);
+        if !self.expects(&reply) {
+            self.tell_expected();
+            return false;
         }
-        writeln!(out, " ok")?;
-        Ok(true)
+        if reply.number == 0 && !self.is_written(reply.message) {
+            return false;
+        }
+        io::write_all(1, b" ok\n");
+        true
     }
 
-    fn expects(&self, alloc: Global, reply: &Reply) -> Result<bool, AllocError> {
-        let numbers = [usize::from(reply.number), reply.place, reply.length];
-        for (number, text) in numbers.iter().zip(self.reply) {
-            if number.to_string(alloc)?.as_bytes() != text {
-                return Ok(false);
-            }
-        }
-        Ok(true)
+    fn expects(&self, reply: &Reply) -> bool {
+        numbers(reply)
+            .iter()
+            .zip(self.reply)
+            .all(|(number, text)| is_number(*number, text))
     }
 
-    // By `write_all` and no `Display`, for the bytes of a table need not be text.
-    fn tell_expected(&self, out: &mut impl Write) -> io::Result<()> {
-        write!(out, " WRONG, expected")?;
+    fn tell_expected(&self) {
+        io::write_all(1, b" WRONG, expected");
         for text in self.reply {
-            out.write_all(b" ")?;
-            out.write_all(text)?;
+            io::write_all(1, b" ");
+            io::write_all(1, text);
         }
-        writeln!(out)
+        io::write_all(1, b"\n");
     }
 
     // Is the text written of this record the expected one? Where it is not, it is printed.
-    fn is_written(&self, out: &mut impl Write, alloc: Global, message: Record) -> io::Result<bool> {
-        let mut text = vec![in alloc; 0; 2048]?;
+    fn is_written(&self, message: Record) -> bool {
+        let mut expected = [0; ROOM];
+        let n = unescape(self.canonical, &mut expected);
+        let mut text = [0; 2048];
         let written = write(message, &mut text);
-        text.truncate(written.count);
-        if text == unescaped(alloc, self.canonical)? {
-            return Ok(true);
+        let text = &text[..written.count];
+        if text == &expected[..n] {
+            return true;
         }
-        write!(out, " WRONG, canonical text ")?;
-        out.write_all(&text)?;
-        writeln!(out)?;
-        Ok(false)
+        io::write_all(1, b" WRONG, canonical text ");
+        io::write_all(1, text);
+        io::write_all(1, b"\n");
+        false
     }
+}
+
+fn numbers(reply: &Reply) -> [u64; 3] {
+    [
+        u64::from(reply.number),
+        reply.place as u64,
+        reply.length as u64,
+    ]
+}
+
+// Are these the number's figures, with no zero in front?
+fn is_number(number: u64, text: &[u8]) -> bool {
+    let mut figures = [0; 20];
+    let k = io::decimal(number, &mut figures);
+    &figures[..k] == text
 }

@@ -1,29 +1,36 @@
 // The bytes that a text of the table stands for: each for itself but for `\r`, CR; `\n`, LF; `\s`, 128 spaces; and `\x` with two hexadecimal digits,
 // any byte.
 ghost use Rattle.std.specs.Prelude.{◌<◌};
+ghost use Rattle.io.specs.Counts.{IsPrefixLen};
 
-use std::alloc::{AllocError, Global};
+use pens::{put, put_all};
 
-pub(crate) fn unescaped(alloc: Global, text: &[u8]) -> Result<Vec<u8>, AllocError> {
-    let mut bytes = Vec::new(alloc);
+// More than a bulletin has, so that a longer one is seen as such.
+pub(crate) const ROOM: usize = 2304;
+
+// Puts them at the front of the buffer, as many as it has room for, and answers how many.
+pub(crate) fn unescape(text: &[u8], out: &mut [u8]) -> usize
+    ensures { IsPrefixLen result out.new }
+{
+    let mut at = 0;
     let mut rest = text;
     loop {
         rest = match rest {
-            [] => return Ok(bytes),
+            [] => return at,
             [b'\\', b's', rest @ ..] => {
-                bytes.extend_from_slice(&[b' '; 128])?;
+                at = put_all(out, at, &[b' '; 128]);
                 rest
             }
             [b'\\', b'x', high, low, rest @ ..] => {
-                bytes.push(digit(*high) * 16 + digit(*low))?;
+                at = put(out, at, digit(*high) * 16 + digit(*low));
                 rest
             }
             [b'\\', mark, rest @ ..] => {
-                bytes.push(control(*mark))?;
+                at = put(out, at, control(*mark));
                 rest
             }
             [byte, rest @ ..] => {
-                bytes.push(*byte)?;
+                at = put(out, at, *byte);
                 rest
             }
         };

@@ -1,55 +1,51 @@
-// The calls that a script asks for, each with the line that it prints, by one call of `write`.
-use crate::script::Command;
+// The calls that a script asks for, each with the line that it prints.
+use crate::line::Line;
+use crate::script::{Command, ROOM};
 use board::{Board, Posted};
 use listing::list;
 use reader::read;
-use std::alloc::Global;
-use std::io;
 
 impl Command<'_> {
-    pub(crate) fn carry_out(
-        self,
-        rt: &impl Print,
-        alloc: Global,
-        board: &mut Board,
-    ) -> io::Result<()> {
+    pub(crate) fn carry_out(self, board: &mut Board) {
         match self {
-            Command::Post { clock, bulletin } => post(rt, board, clock, bulletin),
-            Command::List { time, room } => list_into(rt, alloc, *board, time, room),
+            Command::Post { clock, bulletin } => post(board, clock, bulletin),
+            Command::List { time, room } => {
+                let mut buffer = [0; ROOM];
+                list_into(*board, time, &mut buffer[..room.bytes]);
+            }
         }
     }
 }
 
 // Reads a bulletin and gives what it says to the board.
-fn post(rt: &impl Print, board: &mut Board, clock: u32, bulletin: &[u8]) -> io::Result<()> {
+fn post(board: &mut Board, clock: u32, bulletin: &[u8]) {
     let reply = read(bulletin);
     if reply.number != 0 {
-        return println!(rt; "r {} {} {}", reply.number, reply.place, reply.length);
+        let mut line = Line::new(b'r');
+        line.number(u64::from(reply.number));
+        line.number(reply.place as u64);
+        line.number(reply.length as u64);
+        return line.print();
     }
     let Posted {
         answer,
         board: next,
     } = board.post(clock, reply.message);
     *board = next;
-    println!(rt; "p {answer}")
+    let mut line = Line::new(b'p');
+    line.number(u64::from(answer));
+    line.print();
 }
 
-// Lists at a time into a buffer of so many bytes. What was listed follows the count in hexadecimal, where that is not 0. Such a line is put together
-// first: `println!` prints one of more than 1,024 bytes by several calls.
-fn list_into(
-    rt: &impl Print,
-    alloc: Global,
-    board: Board,
-    time: u32,
-    room: usize,
-) -> io::Result<()> {
-    let mut bytes = vec![in alloc; 0; room]?;
-    let listed = list(board, time, &mut bytes);
-    bytes.truncate(listed.count);
-    if bytes.is_empty() {
-        return println!(rt; "l {} {}", listed.number, listed.count);
+// Lists at a time into a buffer. What was listed follows the count in hexadecimal, where that is not 0.
+fn list_into(board: Board, time: u32, out: &mut [u8]) {
+    let listed = list(board, time, out);
+    let bytes = &out[..listed.count];
+    let mut line = Line::new(b'l');
+    line.number(u64::from(listed.number));
+    line.number(bytes.len() as u64);
+    if !bytes.is_empty() {
+        line.hex(bytes);
     }
-    let figures = hex::encode(alloc, &bytes)?;
-    let line = format!(in alloc; "l {} {} {figures}\n", listed.number, listed.count)?;
-    rt.write_all(line.as_bytes())
+    line.print();
 }

@@ -3,6 +3,7 @@ ghost use Rattle.std.specs.Prelude.{◌≡◌, ◌<◌, ◌≤◌, length, true,
 ghost use Rattle.std.specs.Iterator.{at_most};
 ghost use Rattle.lists.specs.Lists.{all_of};
 ghost use Rattle.words.specs.Bytes.{digit};
+ghost use Rattle.replay.specs.declared.script.TheConstants.{ROOM};
 ghost use Rattle.replay.specs.Numbers.{figures_end, value_in, front_number, behind_number};
 
 use std::str;
@@ -12,11 +13,18 @@ use words::is_digit;
 #[derive(Clone, Copy)]
 pub(crate) enum Command<'a> {
     Post { clock: u32, bulletin: &'a [u8] },
-    List { time: u32, room: usize },
+    List { time: u32, room: Room },
 }
 
 // The most room of a listing.
-const ROOM: u32 = 2000;
+pub(crate) const ROOM: usize = 2000;
+
+// The room of a listing.
+#[derive(Clone, Copy)]
+pub(crate) struct Room {
+    pub(crate) bytes: usize,
+    ghost within: { bytes ≤ ROOM },
+}
 
 // What is left of a script. A method takes what it names off its front, and answers nothing where that does not stand there.
 #[derive(Clone, Copy)]
@@ -73,9 +81,11 @@ impl<'a> Script<'a> {
                     bulletin,
                 })
             }
-            b'L' if second <= ROOM => Some(Command::List {
+            b'L' if second as usize <= ROOM => Some(Command::List {
                 time: first,
-                room: second as usize,
+                room: Room {
+                    bytes: second as usize,
+                },
             }),
             _ => None,
         }
