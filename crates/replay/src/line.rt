@@ -44,6 +44,7 @@ impl Line {
 
     pub(crate) fn print(mut self) {
         self.put(b'\n');
+        // Lent whole first: `within` speaks of its length, and of the array a part would need a bound on 4,096.
         let bytes: &[u8] = &self.bytes;
         io::write_all(1, &bytes[..self.end]);
     }
