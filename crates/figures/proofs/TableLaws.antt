@@ -12,14 +12,14 @@ use borrow.Author.Tests.{ltb-true, ltb-false, not-true, lt-ltb, le-ltb, le-leb, 
 use Rattle.std.specs.Prelude.{Option, Some, None}
 use Rattle.lists.specs.Choice.{pick, found}
 use Rattle.lists.specs.Lists.{all_of, index_of, same}
-use Rattle.lists.proofs.Choice.{by, both_left, both_right, both_true, both-false-left, pick-false}
-use Rattle.lists.proofs.Lists.{all-at, index-found, index-within, same_refl, same-is}
+use Rattle.lists.proofs.Choice.{by, both_left, both_right, both_true, both-false-left, pick_true, pick-false}
+use Rattle.lists.proofs.Lists.{all-at, index-none, index-found, index-within, same_refl, same-is}
 use Rattle.words.proofs.Ranges.{between-low, between-high}
 use Rattle.figures.specs.Reads.{Reads}
 use Rattle.figures.specs.Codes.{short, code_of}
 use Rattle.figures.specs.Tables.{word_in, word_of, in_table, distinct, number_in, numbered, in_numbers}
 use Rattle.figures.proofs.ReadsLaws.{Back}
-use Rattle.figures.proofs.CodeLaws.{same_code}
+use Rattle.figures.proofs.CodeLaws.{same_code, code-tells}
 
 pub find-word : (table : List (List ℕ)) (w : List ℕ) → all_of short table ≡ true → index_of (eqb (code_of w)) (map code_of table) ≡ word_in table w
 unfolding index_of all_of
@@ -77,6 +77,29 @@ coded-word first (k ∷ ks) w s =
 
 pub number-coded : (first : ℕ) (table : List (List ℕ)) (w : List ℕ) → 0 < first → all_of short table ≡ true → found (in_numbers first table) (number_in first table w) ≡ coded first table (code_of w)
 number-coded first table w pos s = number_found first table w pos ∙ coded-word first table w s
+
+-- the number of the word that has the code of a word of the table
+pub number_at : (first : ℕ) (table : List (List ℕ)) (k : ℕ) (w : List ℕ) → distinct table ≡ true → all_of short table ≡ true → k < length table → code_of w ≡ code_of (word_of table k) → first + k ≡ number_in first table w
+number_at first table k w d s h e =
+    let is : w ≡ word_of table k = code-tells w (word_of table k) (all-at short table [] s k h) e in
+    let found : word_in table w ≡ k = ap (word_in table) is ∙ (table-reads table d).forth k (lt-ltb k (length table) h) in
+    let inside : in_table table (word_in table w) ≡ true = rw found (lt-ltb k (length table) h) in
+    sym (pick_true (first + word_in table w) 0 inside ∙ ap (λ (n : ℕ). first + n) found)
+
+same_none : (table : List (List ℕ)) (w : List ℕ) → all_of short table ≡ true → all_of (λ (k : List ℕ). not (eqb (code_of w) (code_of k))) table ≡ true → all_of (λ (k : List ℕ). not (same w k)) table ≡ true
+unfolding all_of
+same_none [] w s t = refl
+same_none (k ∷ ks) w s t =
+    let other : not (same w k) ≡ true =
+    ap not (sym (same_code w k (both_left (short k) (all_of short ks) s))) ∙ both_left (not (eqb (code_of w) (code_of k))) (all_of (λ (x : List ℕ). not (eqb (code_of w) (code_of x))) ks) t in
+    both_true other
+    (same_none ks w (both_right (short k) (all_of short ks) s) (both_right (not (eqb (code_of w) (code_of k))) (all_of (λ (x : List ℕ). not (eqb (code_of w) (code_of x))) ks) t))
+
+-- a word that has the code of no word of the table has number 0
+pub number-none : (first : ℕ) (table : List (List ℕ)) (w : List ℕ) → all_of short table ≡ true → all_of (λ (k : List ℕ). not (eqb (code_of w) (code_of k))) table ≡ true → 0 ≡ number_in first table w
+number-none first table w s t =
+    let past : word_in table w ≡ length table = index-none (same w) table (same_none table w s t) in
+    sym (pick-false (first + word_in table w) 0 (le-ltb (word_in table w) (length table) (omega arith)))
 
 -- what holds of every word of a table holds of the word of a number
 pub numbered-all : (f : List ℕ → Bool) (first : ℕ) (table : List (List ℕ)) → 0 < length table → all_of f table ≡ true → (n : ℕ) → in_numbers first table n ≡ true → f (numbered first table n) ≡ true

@@ -10,6 +10,7 @@ use lib.Seq.{take-suc, sets, sets-eq}
 use borrow.Author.Tests.{lt-ltb}
 use Rattle.lists.specs.Base.{places}
 use Rattle.words.specs.Words.{line}
+use Rattle.figures.specs.Codes.{FixedWord, spell_code}
 use Rattle.pens.specs.Pens.{Pen, pen, stroke, strokes, Puts, spaced, Words, shifted}
 
 -- Texts.
@@ -66,6 +67,21 @@ no_words = record { says = refl }
 pub and_then : {a b : List (List ℕ)} {at n m : ℕ} {page p q : List ℕ} → Words a at page n p → Words b n p m q → Words (a ++ b) at page m q
 and_then {a} {b} {at} {n} {m} {page} f g =
     record { says = ap (λ (t : List ℕ). strokes t (pen at page)) (spaced_append a b) ∙ (strokes_append (spaced a) (spaced b) (pen at page) ∙ (ap (strokes (spaced b)) f.says ∙ g.says)) }
+
+-- a word by another name
+pub renamed : {v w : List ℕ} {at n : ℕ} {page p : List ℕ} → v ≡ w → Words (v ∷ []) at page n p → Words (w ∷ []) at page n p
+renamed e f = rw e at f
+
+-- a fixed word by its code
+pub fixed : {k : List ℕ} {code : ℕ} {at n : ℕ} {page p : List ℕ} → FixedWord k code → Words (spell_code code ∷ []) at page n p → Words (k ∷ []) at page n p
+fixed w f = renamed w.spelled f
+
+-- a word goes on
+pub goes_on : {w x : List ℕ} {at n m : ℕ} {page p q : List ℕ} → Words (w ∷ []) at page n p → Puts x n p m q → Words ((w ++ x) ∷ []) at page m q
+unfolding spaced
+goes_on {w} {x} {at} {n} {m} {page} f g =
+    let whole : spaced ((w ++ x) ∷ []) ≡ spaced (w ∷ []) ++ x = rw (append-nil (w ++ x), append-nil w) in
+    record { says = ap (λ (t : List ℕ). strokes t (pen at page)) whole ∙ (strokes_append (spaced (w ∷ [])) x (pen at page) ∙ (ap (strokes x) f.says ∙ g.says)) }
 
 -- Lines.
 

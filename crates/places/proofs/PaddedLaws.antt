@@ -40,6 +40,11 @@ joined (a ∷ b ∷ []) h = absurd (omega arith)
 joined (a ∷ b ∷ c ∷ []) h = omega arith
 joined (a ∷ b ∷ c ∷ d ∷ w) h = absurd (omega arith)
 
+-- the characters of a sequence of one figure: it and two spaces
+pub bare-one : (s : Sequence) {ones r : ℕ} → s.letter ≡ 0 → s.digits ≡ 1 → ones ≡ s.number % 10 + 48 → r ≡ (ones * 256 + 32) * 256 + 32 → r ≡ padded_of s
+unfolding padded worth_after places spell_sequence
+bare-one s l d e t = t ∙ rw (l, d, e) (omega arith)
+
 -- the digits of a good sequence: one, two or three; no more than two behind a letter
 pub third_digit : (s : Sequence) → good_sequence s ≡ true → s.letter ≡ 0 → (s.digits ≡ 1 → ⊥) → (s.digits ≡ 2 → ⊥) → s.digits ≡ 3
 unfolding good_sequence
