@@ -59,12 +59,8 @@ pub fn two(w: &[u8]) -> Option<u8>
 pub fn three(w: &[u8]) -> Option<u16>
     ensures { result ≡ found (λ n. ltb n 1000) (three_of w.now) }
 {
-    let count = figures(w)?;
-    if count < 1000 {
-        Some(count as u16)
-    } else {
-        None
-    }
+    let m = figures(w)?;
+    if m < 1000 { Some(m as u16) } else { None }
 }
 
 // The code of a word of at most seven bytes: a 1 and then its bytes; 0, the code of no word, of a longer one.
