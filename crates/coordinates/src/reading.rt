@@ -1,4 +1,4 @@
-// One judgement and one reader for both axes.
+// One judgement and one reader for both axes. Inlined, so that each axis has its own code, with its numbers in it: an outline has forty of them.
 ghost use Rattle.std.specs.Prelude.{◌≡◌};
 ghost use Rattle.lists.specs.Choice.{found};
 ghost use Rattle.coordinates.specs.Coordinates.{coordinate_of, good_coordinate, written, counted};
@@ -9,6 +9,7 @@ use crate::axis::Axis;
 use figures::{three, two};
 
 impl Axis {
+    #[inline(always)]
     fn is_written(self, c: Coordinate) -> bool
         ensures { result ≡ written (axis_of self) c }
     {
@@ -16,6 +17,7 @@ impl Axis {
             && (c.digits == self.width && c.minutes == 0 || c.digits == self.width + 2)
     }
 
+    #[inline(always)]
     fn is_counted(self, c: Coordinate) -> bool
         ensures { result ≡ counted (axis_of self) c }
     {
@@ -24,6 +26,7 @@ impl Axis {
             && (c.degrees < self.greatest || c.minutes == 0)
     }
 
+    #[inline(always)]
     #[tactic(auto, unfolding(crate::specs::Coordinates::good_coordinate))]
     pub(crate) fn good(self, c: Coordinate) -> bool
         ensures { result ≡ good_coordinate (axis_of self) c }
@@ -31,6 +34,7 @@ impl Axis {
         self.is_written(c) && self.is_counted(c)
     }
 
+    #[inline(always)]
     fn keep(self, c: Coordinate) -> Option<Coordinate>
         ensures { result ≡ found (good_coordinate (axis_of self)) c }
     {
@@ -38,6 +42,7 @@ impl Axis {
     }
 
     // The coordinate that a word is: a letter and degrees, or a letter, degrees and minutes.
+    #[inline(always)]
     pub(crate) fn coordinate(self, w: &[u8]) -> Option<Coordinate>
         ensures { result ≡ found (good_coordinate (axis_of self)) (coordinate_of (axis_of self) w.now) }
     {

@@ -3,8 +3,10 @@ ghost use Rattle.std.specs.Prelude.{◌≡◌};
 ghost use Rattle.coordinates.specs.Coordinates.{north_south, east_west};
 ghost use Rattle.message.specs.Locations.{good_side, empty_side, good_bound, no_points, good_outline, good_extent, empty_extent};
 
-use crate::{Bound, Extent, LEAST_POINTS, Location, MOST_POINTS, NO_SIDE, Side};
-use coordinates::{Point, empty_point, good_latitude, good_longitude, good_point, same_point};
+use crate::{Bound, Extent, LEAST_POINTS, Location, MOST_POINTS, Side};
+use coordinates::{
+    Point, empty_coordinate, empty_point, good_latitude, good_longitude, good_point, same_point,
+};
 
 // Two functions and no generic one: letters and judge both differ, so that it would be longer than the two.
 impl Side {
@@ -22,11 +24,11 @@ impl Side {
         matches!(self.of, b'E' | b'W') && good_longitude(self.at)
     }
 
-    #[tactic(auto, unfolding(crate::specs::Locations::empty_side, coordinates::specs::Coordinates::empty_coordinate))]
+    #[tactic(auto, unfolding(crate::specs::Locations::empty_side))]
     fn is_empty(&self) -> bool
         ensures { result ≡ empty_side self.now }
     {
-        *self == NO_SIDE
+        self.of == 0 && empty_coordinate(self.at)
     }
 }
 

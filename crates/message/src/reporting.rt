@@ -10,7 +10,7 @@ use crate::{
 use coordinates::good_point;
 use groups::good_time;
 use headings::{KIND_WS, KIND_WV};
-use levels::{Level, good_level};
+use levels::{empty_level, good_level};
 use motions::{COMPASS_POINTS, good_speed};
 
 impl Volcano {
@@ -92,7 +92,7 @@ impl Report {
     }
 
     // Part by part, for `*self == NO_REPORT` takes half as many instructions again.
-    #[tactic(auto, unfolding(crate::specs::Reports::empty_report, crate::specs::Reports::empty_observation, crate::specs::Reports::empty_ending, levels::specs::Levels::empty_level))]
+    #[tactic(auto, unfolding(crate::specs::Reports::empty_report, crate::specs::Reports::empty_observation, crate::specs::Reports::empty_ending))]
     pub(crate) fn is_empty(&self) -> bool
         ensures { result ≡ empty_report self.now }
     {
@@ -100,7 +100,7 @@ impl Report {
             && self.volcano.is_empty()
             && self.observation == NO_OBSERVATION
             && self.extent.is_empty()
-            && self.level == Level::NoLevel
+            && empty_level(self.level)
             && self.ending == Ending::NoEnding
             && self.forecast.is_empty()
     }

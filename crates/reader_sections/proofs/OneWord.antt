@@ -2,7 +2,7 @@
 use mathlib.Core.Bool.{Bool, true, false}
 use mathlib.Core.List.{List, [], ◌∷◌}
 use mathlib.Core.Path.{◌≡◌, refl, ap, sym, ◌∙◌}
-use Prim.Native.Nat.{ℕ, ◌-◌, ◌≤◌, ◌<◌}
+use Prim.Native.Nat.{ℕ, ◌≤◌, ◌<◌}
 use native.Mathlib.Omega.{arith}
 use lib.Dec.{eqb}
 use lib.ListN.{length}
@@ -12,9 +12,8 @@ use Rattle.lists.specs.Choice.{found}
 use Rattle.lists.specs.Lists.{same}
 use Rattle.lists.proofs.Choice.{by, both-false-right}
 use Rattle.lists.proofs.Found.{some-good, some-is, none-bad}
-use Rattle.words.specs.declared.Span.{Span}
-use Rattle.words.specs.Words.{equals_sign, span_of, length_at}
-use Rattle.words.proofs.NextWord.{text-or-equals, span-moves, length-equals, length-word}
+use Rattle.words.specs.Words.{equals_sign, span_of}
+use Rattle.words.proofs.NextWord.{text-or-equals, span-moves}
 use Rattle.figures.specs.Codes.{code_of, FixedWord}
 use Rattle.figures.proofs.CodeLaws.{same_code}
 use Rattle.message.specs.declared.Record.{Record}
@@ -36,19 +35,6 @@ use Rattle.reader_sections.proofs.RunsAt.{OnlyWords, part-test, part-passes, in-
 
 pub standing : (p : Step) → p.place ≤ length p.text.now
 standing p = omega (arith, p.stands.ordered, p.stands.within)
-
--- how long the next word is
-abbrev span : Step → Span
-span p = record { start = p.place; end = p.end }
-
-is-span : (p : Step) → span p ≡ span_of p.text.now p.place
-is-span p = λ i. record { start = p.stands.starts i; end = p.stands.ends i }
-
-pub length-equals-sign : (p : Step) → p.end - p.place ≡ 0 → 1 ≡ length_at p.text.now p.place
-length-equals-sign p e = length-equals p.text.now p.place (is-span p) (omega (arith, p.stands.ordered))
-
-pub length-of-word : (p : Step) → (p.end - p.place ≡ 0 → ⊥) → p.end - p.place ≡ length_at p.text.now p.place
-length-of-word p n = length-word p.text.now p.place (is-span p) (omega (arith, p.stands.ordered))
 
 -- A word of the text moves the machine on, …
 pub reaches : {s next : State} {from to : Step} → Next from to → from.place < length from.text.now → step s (next_word from) ≡ goes next → Reaches s from next to

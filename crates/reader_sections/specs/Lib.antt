@@ -1,7 +1,6 @@
 pub mod Standing
 pub mod Parts
 pub mod Steps
-pub mod Replies
 pub mod Openings
 pub mod Names
 pub mod Phenomena

@@ -106,10 +106,14 @@ moves s from (Err e) next = Ends s from e
 pub record Moves (s : State) (from : Step) (r : Result Step Refused) (next : State) : Type 0 where
   pub says : moves s from r next
 
--- … to the record of the whole text
-abbrev pub replies : State → Step → Result Record Refused → Type 0
-replies s from (Ok m) = reply_on s from ≡ acceptance m
-replies s from (Err e) = Ends s from e
+-- … to what gives the record of the whole text
+abbrev pub concludes : {A : Type 0} → State → Step → Result A Refused → (A → Record) → Type 0
+concludes s from (Ok v) whole = reply_on s from ≡ acceptance (whole v)
+concludes s from (Err e) whole = Ends s from e
 
-pub record Replies (s : State) (from : Step) (r : Result Record Refused) : Type 0 where
-  pub says : replies s from r
+pub record Concludes {A : Type 0} (s : State) (from : Step) (r : Result A Refused) (whole : A → Record) : Type 0 where
+  pub says : concludes s from r whole
+
+-- … to the reply
+pub record Replies (s : State) (from : Step) (r : Reply) : Type 0 where
+  pub says : reply_on s from ≡ r

@@ -9,22 +9,25 @@ ghost use Rattle.reader_sections.specs.Steps.{Leads, Replies};
 
 use crate::cancellation::read_cancellation;
 use crate::opening::Opening;
+use crate::replies::concluded;
 use crate::report::read_report;
 use crate::step::{Refused, Step};
 use crate::test_texts::{read_long_test, read_test};
-use message::{Form, NO_REPORT, Record};
+use grammar::Reply;
+use message::{Form, NO_REPORT};
 
 // A test or a cancellation has no report, and the `=` follows.
-fn unreported(read: Result<(Form, Step), Refused>, opening: Opening) -> Result<Record, Refused>
+fn unreported(read: Result<(Form, Step), Refused>, opening: Opening) -> Reply
     ensures { (s : State) (from : Step) → Leads s from read.entry (λ f. at_end (formed (area_in opening) f no_report)) → Replies s from result }
 {
-    let (form, step) = read?;
-    step.ended()?;
-    Ok(opening.message(form, NO_REPORT))
+    match concluded(read) {
+        Ok(form) => opening.accepted(form, NO_REPORT),
+        Err(refused) => refused.reply(),
+    }
 }
 
 // A word that begins neither a test nor a cancellation is judged as a phenomenon.
-pub(crate) fn read_body(step: Step, opening: Opening) -> Result<Record, Refused>
+pub(crate) fn read_body(step: Step, opening: Opening) -> Reply
     ensures { Replies (at_form (area_in opening)) step.entry result }
 {
     let code = step.code();

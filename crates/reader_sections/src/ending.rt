@@ -6,6 +6,8 @@ ghost use Rattle.vocabulary.specs.Codes.{code-mov, code-stnr};
 ghost use Rattle.groups.specs.Groups.{time_of};
 ghost use Rattle.message.specs.Limits.{ws};
 ghost use Rattle.message.specs.Locations.{no_extent};
+ghost use Rattle.message.specs.declared.Ending.TheVariants.{Forecast};
+ghost use Rattle.grammar.specs.Bulletins.{acceptance};
 ghost use Rattle.grammar.specs.Records.{report_of};
 ghost use Rattle.grammar.specs.States.{ToLevel};
 ghost use Rattle.grammar.specs.States.State.{at_ending, at_compass, at_end};
@@ -15,11 +17,13 @@ ghost use Rattle.reader_sections.specs.Steps.{next_word, word_on, Leads, Replies
 use crate::location::read_location;
 use crate::opening::Opening;
 use crate::parts::Part;
+use crate::replies::concluded;
 use crate::step::{Refused, Step};
+use grammar::Reply;
 use groups::{Time, time_word};
 use headings::KIND_WS;
 use levels::Level;
-use message::{Ending, Extent, Form, NO_EXTENT, Observation, Record, Report, Volcano};
+use message::{Ending, Extent, Form, NO_EXTENT, Observation, Report, Volcano};
 use motions::{compass_word, intensity_word, speed_word};
 
 // What was read up to the level of a report, with the opening before it.
@@ -34,9 +38,10 @@ pub(crate) struct UpToLevel {
 }
 
 impl UpToLevel {
-    // The whole report.
-    fn message(self, ending: Ending, forecast: Extent) -> Record
-        ensures { result ≡ report_of (level_in self) ending forecast }
+    // The reply to the whole report.
+    #[inline(always)]
+    fn accepted(self, ending: Ending, forecast: Extent) -> Reply
+        ensures { result ≡ acceptance (report_of (level_in self) ending forecast) }
     {
         let report = Report {
             phenomenon: self.phenomenon,
@@ -47,11 +52,12 @@ impl UpToLevel {
             ending,
             forecast,
         };
-        self.opening.message(Form::Reported, report)
+        self.opening.accepted(Form::Reported, report)
     }
 }
 
 // What follows MOV.
+#[inline(always)]
 fn read_moving(step: Step) -> Result<(Ending, Step), Refused>
     ensures { (l : ToLevel) → Leads (at_compass l) step.entry result (λ e. at_end (report_of l e no_extent)) }
 {
@@ -62,6 +68,7 @@ fn read_moving(step: Step) -> Result<(Ending, Step), Refused>
 }
 
 // MOV and what follows it, or STNR and the intensity: a word that is not MOV is judged as STNR.
+#[inline(always)]
 fn read_movement(step: Step) -> Result<(Ending, Step), Refused>
     ensures { (l : ToLevel) → Unforeseen (code_of (word_on step.entry)) l → Leads (at_ending l) step.entry result (λ e. at_end (report_of l e no_extent)) }
 {
@@ -93,9 +100,9 @@ fn read_forecast_words(step: Step, until: Time) -> Result<(u8, Step), Refused>
     Ok((intensity, step))
 }
 
-// The forecast and the `=`.
-fn read_forecast(step: Step, known: UpToLevel) -> Result<Record, Refused>
-    ensures { Forecasts (level_in known) (next_word step.entry) → Replies (at_ending (level_in known)) step.entry result }
+// The forecast: the intensity and the location.
+fn read_forecast(step: Step, known: UpToLevel) -> Result<((u8, Extent), Step), Refused>
+    ensures { Forecasts (level_in known) (next_word step.entry) → Leads (at_ending (level_in known)) step.entry result (λ f. at_end (report_of (level_in known) (Forecast f.0) f.1)) }
 {
     let to = known.opening.line.valid.to;
     let until = Time {
@@ -104,8 +111,7 @@ fn read_forecast(step: Step, known: UpToLevel) -> Result<Record, Refused>
     };
     let (intensity, step) = read_forecast_words(step, until)?;
     let (forecast, step) = read_location(step, known.opening.area.closing, Part::Ending)?;
-    step.ended()?;
-    Ok(known.message(Ending::Forecast(intensity), forecast))
+    Ok(((intensity, forecast), step))
 }
 
 // A word that is neither MOV nor STNR is judged, in a WS, as the intensity before a forecast.
@@ -115,13 +121,19 @@ fn foresees(kind: u8, code: u64) -> bool
     kind == KIND_WS && (code != vocabulary::MOV && code != vocabulary::STNR)
 }
 
-pub(crate) fn read_ending(step: Step, known: UpToLevel) -> Result<Record, Refused>
+pub(crate) fn read_ending(step: Step, known: UpToLevel) -> Reply
     ensures { Replies (at_ending (level_in known)) step.entry result }
 {
     if foresees(known.opening.heading.designator.kind, step.code()) {
-        return read_forecast(step, known);
+        match concluded(read_forecast(step, known)) {
+            Ok((intensity, forecast)) => {
+                return known.accepted(Ending::Forecast(intensity), forecast);
+            }
+            Err(refused) => return refused.reply(),
+        }
     }
-    let (ending, step) = read_movement(step)?;
-    step.ended()?;
-    Ok(known.message(ending, NO_EXTENT))
+    match concluded(read_movement(step)) {
+        Ok(ending) => return known.accepted(ending, NO_EXTENT),
+        Err(refused) => refused.reply(),
+    }
 }

@@ -14,6 +14,7 @@ use message::{Bound, Extent, Location, NO_POINTS, NO_SIDE, Side};
 use names::CLOSED_BY_CTA;
 
 // The letter before OF, where the word of that code is one of the two.
+#[inline(always)]
 fn side_of(code: u64, plus: u64, minus: u64) -> Option<u8>
     ensures { SideSays code plus minus result }
 {
@@ -24,6 +25,7 @@ fn side_of(code: u64, plus: u64, minus: u64) -> Option<u8>
     }
 }
 
+#[inline(always)]
 fn bounded(latitude: Side, longitude: Side) -> Extent
     ensures { result ≡ bounded_by latitude longitude }
 {
@@ -38,6 +40,7 @@ fn bounded(latitude: Side, longitude: Side) -> Extent
 }
 
 // OF and a longitude, after `E` or `W`; a latitude bound may stand before it.
+#[inline(always)]
 fn read_longitude_bound(
     step: Step,
     north: Side,

@@ -25,7 +25,8 @@ fn belongs(step: Step, used: usize, mountain: bool, limit: usize) -> bool
     ensures { BelongsSays mountain limit used step.entry result }
 {
     let w = step.word();
-    in_name(w, mountain) && used + w.len() <= limit
+    // The length first: a word that is too long is not looked at.
+    used + w.len() <= limit && in_name(w, mountain)
 }
 
 // The name of that word alone.

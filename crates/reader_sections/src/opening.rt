@@ -1,6 +1,4 @@
 // What every message begins with: heading, first line and area.
-ghost use Rattle.std.specs.Prelude.{◌≡◌};
-ghost use Rattle.grammar.specs.Records.{formed};
 ghost use Rattle.grammar.specs.States.State.{at_designator, at_form};
 ghost use Rattle.reader_sections.specs.Openings.{area_in};
 ghost use Rattle.reader_sections.specs.Steps.{Leads};
@@ -9,28 +7,13 @@ use crate::area::read_area;
 use crate::first_line::read_line;
 use crate::heading::read_heading;
 use crate::step::{Refused, Step};
-use message::{Area, FirstLine, Form, Heading, Record, Report};
+use message::{Area, FirstLine, Heading};
 
 #[derive(Clone, Copy)]
 pub(crate) struct Opening {
     pub heading: Heading,
     pub line: FirstLine,
     pub area: Area,
-}
-
-impl Opening {
-    // The whole message that begins so.
-    pub(crate) fn message(self, form: Form, report: Report) -> Record
-        ensures { result ≡ formed (area_in self) form report }
-    {
-        Record {
-            heading: self.heading,
-            line: self.line,
-            area: self.area,
-            form,
-            report,
-        }
-    }
 }
 
 pub(crate) fn read_opening(step: Step) -> Result<(Opening, Step), Refused>

@@ -1,4 +1,4 @@
-// An outline: points joined by the word `-`. It ends at the first later point equal to point 1.
+// An outline: points joined by the word `-`. It ends at the first later point equal to point 1. What each point is read by is inlined, as in `steps`.
 ghost use Rattle.std.specs.Prelude.{◌<◌, []};
 ghost use Rattle.message.specs.Limits.{most_points};
 ghost use Rattle.grammar.specs.States.Placing.{at_latitude};
@@ -18,6 +18,7 @@ enum Corner {
 }
 
 // May a point of that latitude follow so many points? The last that there is room for has the latitude of point 1.
+#[inline(always)]
 fn may_follow(first: Point, count: usize, c: Coordinate) -> bool
     requires { count < most_points }
     ensures { FollowsSays first count c result }
@@ -26,6 +27,7 @@ fn may_follow(first: Point, count: usize, c: Coordinate) -> bool
 }
 
 // Is the point equal to point 1?
+#[inline(always)]
 fn closes(first: Point, count: usize, p: Point) -> bool
     ensures { ClosesSays first count p result }
 {
@@ -33,6 +35,7 @@ fn closes(first: Point, count: usize, p: Point) -> bool
 }
 
 // The latitude of one more point.
+#[inline(always)]
 fn latitude_word(first: Point, count: usize, w: &[u8]) -> Option<Coordinate>
     requires { count < most_points }
     ensures { LatitudeSays first count w.now result }
@@ -47,6 +50,7 @@ fn latitude_word(first: Point, count: usize, w: &[u8]) -> Option<Coordinate>
 
 // The point of that latitude and of the longitude that the word is. It may close the outline from point 4 on, and has to where there is no room
 // after it.
+#[inline(always)]
 fn corner_word(first: Point, count: usize, north: Coordinate, w: &[u8]) -> Option<Corner>
     requires { count < most_points }
     ensures { CornerSays first count north w.now result }
@@ -73,6 +77,7 @@ fn corner_word(first: Point, count: usize, north: Coordinate, w: &[u8]) -> Optio
 }
 
 // One more point, and the `-` after it where it does not close the outline.
+#[inline(always)]
 fn next_point(step: Step, first: Point, count: usize, part: Part) -> Result<(Corner, Step), Refused>
     requires { count < most_points }
     ensures { PointSays first count part step.entry result }

@@ -1,8 +1,9 @@
 // A report: phenomenon, observation, location, level, then the ending and the `=`.
-ghost use Rattle.grammar.specs.States.State.{at_form};
+ghost use Rattle.grammar.specs.States.State.{at_form, at_ending};
+ghost use Rattle.reader_sections.specs.Endings.{level_in};
 ghost use Rattle.reader_sections.specs.Openings.{area_in};
 ghost use Rattle.reader_sections.specs.Reports.{PhenomenonSays, Reporting};
-ghost use Rattle.reader_sections.specs.Steps.{next_word, Replies};
+ghost use Rattle.reader_sections.specs.Steps.{next_word, Leads, Replies};
 
 use crate::ending::{UpToLevel, read_ending};
 use crate::level::read_level;
@@ -13,8 +14,9 @@ use crate::parts::Part;
 use crate::phenomenon_ws::read_weather;
 use crate::phenomenon_wv::read_ash;
 use crate::step::{Refused, Step};
+use grammar::Reply;
 use headings::KIND_WS;
-use message::{NO_VOLCANO, Record, Volcano};
+use message::{NO_VOLCANO, Volcano};
 
 // The phenomenon of a WS or of a WV.
 fn read_phenomenon(step: Step, kind: u8) -> Result<((u8, Volcano), Step), Refused>
@@ -27,8 +29,9 @@ fn read_phenomenon(step: Step, kind: u8) -> Result<((u8, Volcano), Step), Refuse
     read_ash(step)
 }
 
-pub(crate) fn read_report(step: Step, opening: Opening) -> Result<Record, Refused>
-    ensures { Reporting (next_word step.entry) → Replies (at_form (area_in opening)) step.entry result }
+#[inline(always)]
+fn read_up_to_level(step: Step, opening: Opening) -> Result<(UpToLevel, Step), Refused>
+    ensures { Reporting (next_word step.entry) → Leads (at_form (area_in opening)) step.entry result (λ k. at_ending (level_in k)) }
 {
     let ((phenomenon, volcano), step) = read_phenomenon(step, opening.heading.designator.kind)?;
     let (observation, step) = read_observation(step)?;
@@ -42,5 +45,15 @@ pub(crate) fn read_report(step: Step, opening: Opening) -> Result<Record, Refuse
         extent,
         level,
     };
-    read_ending(step, known)
+    Ok((known, step))
+}
+
+#[inline(always)]
+pub(crate) fn read_report(step: Step, opening: Opening) -> Reply
+    ensures { Reporting (next_word step.entry) → Replies (at_form (area_in opening)) step.entry result }
+{
+    match read_up_to_level(step, opening) {
+        Ok((known, step)) => return read_ending(step, known),
+        Err(refused) => refused.reply(),
+    }
 }

@@ -1,4 +1,5 @@
-// One word at a step: required, perhaps there, or refused.
+// One word at a step: required, perhaps there, or refused. Inlined: a call hands its step and its answer over in memory, and every word of a
+// bulletin is read by these.
 ghost use Rattle.std.specs.Prelude.{◌≡◌, ◌≤◌, ◌<◌, length};
 ghost use Rattle.figures.specs.Codes.{code_of};
 ghost use Rattle.reader_sections.specs.Steps.{word_on, Before, Next, Refuses, Required, Fixed, Long, Perhaps, Ended};
@@ -7,10 +8,11 @@ use crate::parts::Part;
 use crate::step::{Refused, Step};
 use figures::code;
 use vocabulary::same_word;
-use words::word_at;
+use words::{length_at, word_at};
 
 impl<'a> Step<'a> {
     // The step before the next word from a place on.
+    #[inline(always)]
     pub(crate) fn at(text: &'a [u8], place: usize) -> Step<'a>
         requires { place ≤ length text.now }
         ensures { Before text.now place result }
@@ -24,6 +26,7 @@ impl<'a> Step<'a> {
     }
 
     // The step past the word.
+    #[inline(always)]
     pub(crate) fn next(self) -> Step<'a>
         ensures { Next self.entry result }
     {
@@ -31,31 +34,33 @@ impl<'a> Step<'a> {
     }
 
     // What the text has of the word: nothing of the `=`.
+    #[inline(always)]
     pub(crate) fn word(self) -> &'a [u8]
         ensures { result.now ≡ word_on self.entry }
     {
         &self.text[self.place..self.end]
     }
 
+    #[inline(always)]
     pub(crate) fn code(self) -> u64
         ensures { result ≡ code_of (word_on self.entry) }
     {
         code(self.word())
     }
 
-    // The refusal of the word, as that part. The `=` has one byte.
+    // The refusal of the word, as that part.
     pub(crate) fn refused(self, part: Part) -> Refused
         ensures { Refuses part self.entry result }
     {
-        let length = self.end - self.place;
         Refused {
             part,
             place: self.place,
-            length: if length == 0 { 1 } else { length },
+            length: length_at(self.text, self.place),
         }
     }
 
     // A word that has to have a value, which was read of it.
+    #[inline(always)]
     pub(crate) fn required<T>(self, part: Part, value: Option<T>) -> Result<(T, Step<'a>), Refused>
         ensures { Required part self.entry value result }
     {
@@ -66,6 +71,7 @@ impl<'a> Step<'a> {
     }
 
     // A fixed word that has to come.
+    #[inline(always)]
     pub(crate) fn fixed(self, part: Part, wanted: u64) -> Result<Step<'a>, Refused>
         ensures { Fixed part wanted self.entry result }
     {
@@ -88,6 +94,7 @@ impl<'a> Step<'a> {
     }
 
     // A fixed word that may be left out.
+    #[inline(always)]
     pub(crate) fn perhaps(self, wanted: u64) -> Option<Step<'a>>
         ensures { Perhaps wanted self.entry result }
     {
@@ -99,6 +106,7 @@ impl<'a> Step<'a> {
     }
 
     // After the last part only the `=` may come.
+    #[inline(always)]
     pub(crate) fn ended(self) -> Result<(), Refused>
         ensures { Ended self.entry result }
     {

@@ -1,14 +1,12 @@
 -- `unreported` meets its contract: the `=` after what was read, or the refusal of what comes in its place.
-use borrow.Author.Rules.{rules}
-use Rattle.reader_sections.proofs.Leads.{then-ends, then-accepted, replies-err, led, failed}
-use Rattle.reader_sections.proofs.OneWord.{end-yes, end-no}
+use Rattle.message.specs.Reports.{no_report}
+use Rattle.grammar.specs.Records.{formed}
+use Rattle.reader_sections.specs.Openings.{area_in}
+use Rattle.reader_sections.proofs.Leads.{accepts, replies-err}
 use Rattle.reader_sections.proofs.body.unreported.Goals as goal
 
-pub returns-in_err-form : goal.returns-in_err-form
-returns-in_err-form c = λ s from l. replies-err (failed c.in_err-form.was l) (search rules)
+pub returns-in-Ok : goal.returns-in-Ok
+returns-in-Ok c = λ s from l. accepts (c.in-Ok.ensures s from (λ f. formed (area_in c.args.opening) f no_report) l).says c.accepted.ensures
 
-pub returns-in_err-ended : goal.returns-in_err-ended
-returns-in_err-ended c = λ s from l. replies-err (then-ends (led c.in_ok-form.was l) (end-no _ c.in_err-ended.ensures)) (search rules)
-
-pub returns : goal.returns
-returns c = λ s from l. rw c.message.ensures (then-accepted (led c.in_ok-form.was l) (end-yes _ c.in_ok-ended.ensures))
+pub returns-in-Err : goal.returns-in-Err
+returns-in-Err c = λ s from l. replies-err (c.in-Err.ensures s from (λ f. formed (area_in c.args.opening) f no_report) l).says c.reply.ensures

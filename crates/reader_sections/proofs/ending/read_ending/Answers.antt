@@ -3,26 +3,28 @@ use mathlib.Core.Bool.{Bool, true, false, not}
 use mathlib.Core.Path.{◌≡◌, refl, ap, sym, ◌∙◌}
 use Prim.Native.Nat.{ℕ}
 use lib.Dec.{eqb}
-use borrow.Author.Rules.{rules}
 use borrow.Author.Tests.{eq-eqb, ne_eqb, eqb-false, not-true}
 use Rattle.lists.specs.Choice.{both}
 use Rattle.lists.proofs.Choice.{clash, both_left, both_right, both_true}
 use Rattle.figures.specs.Codes.{code_of}
 use Rattle.vocabulary.specs.Codes.{code-mov, code-stnr}
 use Rattle.vocabulary.proofs.FixedWords.{fixed-mov, fixed-stnr}
+use Rattle.message.specs.declared.Ending.TheVariants.{Forecast}
+use Rattle.message.specs.declared.Ending.{Ending}
+use Rattle.message.specs.declared.Extent.{Extent}
+use Rattle.message.specs.declared.Record.{Record}
 use Rattle.message.specs.Limits.{ws}
 use Rattle.message.specs.Locations.{no_extent}
 use Rattle.grammar.specs.Records.{report_of}
-use Rattle.grammar.specs.States.State.{at_ending, at_end}
+use Rattle.grammar.specs.States.State.{at_ending}
 use Rattle.grammar.specs.Steps.{step_ending, step}
 use Rattle.reader_sections.specs.declared.ending.UpToLevel.{UpToLevel}
 use Rattle.reader_sections.specs.declared.step.Step.{Step}
 use Rattle.reader_sections.specs.Endings.{level_in, Unforeseen, Forecasts}
-use Rattle.reader_sections.specs.Steps.{next_word, word_on, Reaches}
-use Rattle.reader_sections.proofs.Leads.{then-ends, then-accepted, replies-err}
-use Rattle.reader_sections.proofs.OneWord.{code-no, end-yes, end-no}
+use Rattle.reader_sections.specs.Steps.{next_word, word_on}
+use Rattle.reader_sections.proofs.Leads.{accepts, replies-err}
+use Rattle.reader_sections.proofs.OneWord.{code-no}
 use Rattle.reader_sections.proofs.ending.read_ending.Goals as goal
-use Rattle.reader_sections.proofs.ending.read_ending.Goals.{In_ok-ending}
 
 abbrev neither : ℕ → Bool
 neither code = both (not (eqb code code-mov)) (not (eqb code code-stnr))
@@ -41,18 +43,32 @@ module _ (known : UpToLevel) (from : Step) {code : ℕ} {foreseen : Bool} (e : c
       let no-stnr = eqb-false _ code-stnr (not-true _ (both_right (not (eqb (code_of (word_on from)) code-mov)) _ other)) in
       rw (code-no fixed-mov from no-mov, code-no fixed-stnr from no-stnr, both_left (eqb known.opening.heading.designator.kind ws) (neither code) (sym b ∙ y)) refl
 
-past-ending : (c : In_ok-ending) → Reaches (at_ending (level_in c.args.known)) c.args.step (at_end (report_of (level_in c.args.known) c.in_ok-ending.ending no_extent)) c.in_ok-ending.step
-past-ending c = (c.in_ok-ending.ensures (level_in c.args.known) (unforeseen c.args.known c.args.step c.code.ensures c.foresees.ensures c.if-foresees.false)).says
+abbrev moved : (known : UpToLevel) → Ending → Record
+moved known e = report_of (level_in known) e no_extent
 
-pub returns-then-foresees : goal.returns-then-foresees
-returns-then-foresees c = c.read_forecast.ensures (forecast c.args.known c.args.step c.code.ensures c.foresees.ensures c.if-foresees.true)
+abbrev foreseen-at : (known : UpToLevel) → ℕ × Extent → Record
+foreseen-at known f = report_of (level_in known) (Forecast f.0) f.1
 
-pub returns-in_err-ending : goal.returns-in_err-ending
-returns-in_err-ending c =
-    replies-err (c.in_err-ending.ensures (level_in c.args.known) (unforeseen c.args.known c.args.step c.code.ensures c.foresees.ensures c.if-foresees.false)).says (search rules)
+pub returns-in-Ok : goal.returns-in-Ok
+returns-in-Ok c =
+    accepts (c.in-Ok.ensures (at_ending (level_in c.args.known)) c.args.step (foreseen-at c.args.known)
+    (c.read_forecast.ensures (forecast c.args.known c.args.step c.code.ensures c.foresees.ensures c.if-foresees.true))).says
+    c.accepted.ensures
 
-pub returns-in_err-ended : goal.returns-in_err-ended
-returns-in_err-ended c = replies-err (then-ends (past-ending (goal.at.returns-in_err-ended c).In_ok-ending) (end-no _ c.in_err-ended.ensures)) (search rules)
+pub returns-in-Err : goal.returns-in-Err
+returns-in-Err c =
+    replies-err (c.in-Err.ensures (at_ending (level_in c.args.known)) c.args.step (foreseen-at c.args.known)
+    (c.read_forecast.ensures (forecast c.args.known c.args.step c.code.ensures c.foresees.ensures c.if-foresees.true))).says
+    c.reply.ensures
+
+pub returns-in-Ok-concluded : goal.returns-in-Ok-concluded
+returns-in-Ok-concluded c =
+    accepts (c.in-Ok-concluded.ensures (at_ending (level_in c.args.known)) c.args.step (moved c.args.known)
+    (c.read_movement.ensures (level_in c.args.known) (unforeseen c.args.known c.args.step c.code.ensures c.foresees.ensures c.if-foresees.false))).says
+    c.accepted-in-Ok-concluded.ensures
 
 pub returns : goal.returns
-returns c = rw c.message.ensures (then-accepted (past-ending (goal.at.returns c).In_ok-ending) (end-yes _ c.in_ok-ended.ensures))
+returns c =
+    replies-err (c.in-Err-concluded.ensures (at_ending (level_in c.args.known)) c.args.step (moved c.args.known)
+    (c.read_movement.ensures (level_in c.args.known) (unforeseen c.args.known c.args.step c.code.ensures c.foresees.ensures c.if-foresees.false))).says
+    c.reply-in-Err-concluded.ensures
