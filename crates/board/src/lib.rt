@@ -11,7 +11,7 @@ mod settling;
 
 use goodness::{are_distinct, good_places, in_range};
 use message::Record;
-use places::{NO_PLACE, Place, Refusal, claim_of};
+use places::{Place, Refusal, claim_of, no_place};
 use settling::{drop_ended, spot_of};
 
 // The clock is that of the last accepted post, 0 before the first.
@@ -43,7 +43,7 @@ impl Board {
     {
         Board {
             clock: 0,
-            places: [NO_PLACE; Board::PLACES],
+            places: [no_place(); Board::PLACES],
         }
     }
 

@@ -6,13 +6,13 @@ ghost use Rattle.places.specs.Refusals.{answer_of};
 ghost use Rattle.board.specs.Posts.{kept, dropped, holds, objection, Finds};
 
 use crate::Board;
-use places::{Identity, NO_PLACE, Place, Refusal, empty_place, same_identity};
+use places::{Identity, Place, Refusal, empty_place, no_place, same_identity};
 
 fn kept_at(clock: u32, p: Place) -> Place
     ensures { result ≡ kept clock p }
 {
     if p.identity.end <= clock {
-        return NO_PLACE;
+        return no_place();
     }
     p
 }
