@@ -41,12 +41,14 @@ impl<'a> Row<'a> {
         let mut text = [0; ROOM];
         let n = unescape(self.text, &mut text);
         let reply = read(&text[..n]);
+        let [number, place, length] = numbers(&reply);
         io::write_all(1, self.name);
-        io::write_all(1, b":");
-        for number in numbers(&reply) {
-            io::write_all(1, b" ");
-            io::print_decimal(1, number);
-        }
+        io::write_all(1, b": ");
+        io::print_decimal(1, number);
+        io::write_all(1, b" ");
+        io::print_decimal(1, place);
+        io::write_all(1, b" ");
+        io::print_decimal(1, length);
         if !self.expects(&reply) {
             self.tell_expected();
             return false;
@@ -66,11 +68,13 @@ impl<'a> Row<'a> {
     }
 
     fn tell_expected(&self) {
-        io::write_all(1, b" WRONG, expected");
-        for text in self.reply {
-            io::write_all(1, b" ");
-            io::write_all(1, text);
-        }
+        let [number, place, length] = self.reply;
+        io::write_all(1, b" WRONG, expected ");
+        io::write_all(1, number);
+        io::write_all(1, b" ");
+        io::write_all(1, place);
+        io::write_all(1, b" ");
+        io::write_all(1, length);
         io::write_all(1, b"\n");
     }
 

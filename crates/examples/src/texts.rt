@@ -14,7 +14,8 @@ pub(crate) fn unescape(text: &[u8], out: &mut [u8]) -> usize
 {
     let mut at = 0;
     let mut rest = text;
-    loop {
+    // What is left of a text that is too long costs nothing.
+    while at < out.len() {
         rest = match rest {
             [] => return at,
             [b'\\', b's', rest @ ..] => {
@@ -35,6 +36,7 @@ pub(crate) fn unescape(text: &[u8], out: &mut [u8]) -> usize
             }
         };
     }
+    at
 }
 
 fn control(mark: u8) -> u8 {

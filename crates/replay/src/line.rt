@@ -1,5 +1,6 @@
 // A line that is put together and printed by one call of `write`. It has room for the longest, of 2,000 bytes in hexadecimal, and stands in a buffer
-// of its own: a `String` would stand on the C library's heap.
+// of its own: a `String` would stand on the C library's heap. One line serves for all that are printed, one after another: to clear and move the
+// whole buffer for each would cost more than the reading of a refused bulletin.
 ghost use Rattle.std.specs.Prelude.{◌≤◌, length};
 
 use pens::{put, put_all};
@@ -12,13 +13,17 @@ pub(crate) struct Line {
 }
 
 impl Line {
-    pub(crate) fn new(letter: u8) -> Line {
-        let mut line = Line {
+    pub(crate) fn new() -> Line {
+        Line {
             bytes: [0; 4096],
             end: 0,
-        };
-        line.put(letter);
-        line
+        }
+    }
+
+    // A new line, of a letter so far.
+    pub(crate) fn begin(&mut self, letter: u8) {
+        self.end = 0;
+        self.put(letter);
     }
 
     fn put(&mut self, x: u8) {
@@ -42,7 +47,7 @@ impl Line {
         }
     }
 
-    pub(crate) fn print(mut self) {
+    pub(crate) fn print(&mut self) {
         self.put(b'\n');
         // Lent whole first: `within` speaks of its length, and of the array a part would need a bound on 4,096.
         let bytes: &[u8] = &self.bytes;

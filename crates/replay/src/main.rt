@@ -10,6 +10,7 @@ mod line;
 mod script;
 
 use board::Board;
+use line::Line;
 use script::{Malformed, Script};
 
 // The longest script.
@@ -36,8 +37,9 @@ fn run(text: &[u8]) -> Result<(), Malformed> {
         return Err(Malformed);
     }
     let mut board = Board::new();
+    let mut line = Line::new();
     for command in Script::new(text) {
-        command?.carry_out(&mut board);
+        command?.carry_out(&mut board, &mut line);
     }
     Ok(())
 }
