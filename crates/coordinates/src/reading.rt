@@ -1,4 +1,5 @@
-// One judgement and one reader for both axes. Inlined, so that each axis has its own code, with its numbers in it: an outline has forty of them.
+// One judgement and one reader for both axes. Inlined, so that each axis has its own code, with its numbers in it: an outline has up to forty
+// coordinates.
 ghost use Rattle.std.specs.Prelude.{◌≡◌};
 ghost use Rattle.lists.specs.Choice.{found};
 ghost use Rattle.coordinates.specs.Coordinates.{coordinate_of, good_coordinate, written, counted};

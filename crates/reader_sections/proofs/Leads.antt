@@ -62,13 +62,9 @@ module _ {s : State} {from : Step} {e : Refused} (h : Ends s from e) where
 pub accepts : {s : State} {from : Step} {m : Record} {r : Reply} → reply_on s from ≡ acceptance m → r ≡ acceptance m → Replies s from r
 accepts h is = record { says = h ∙ sym is }
 
--- what a section that led to a step, or to a refusal, says
-module _ {A : Type 0} {s : State} {from : Step} {r : Result (A × Step) Refused} {next : A → State} where
-  pub led : {v : A} {p : Step} → r ≡ Ok (v, p) → Leads s from r next → Reaches s from (next v) p
-  led is l = (rw is at l).says
-
-  pub failed : {e : Refused} → r ≡ Err e → Leads s from r next → Ends s from e
-  failed is l = (rw is at l).says
+-- what a section that led to a step says
+pub led : {A : Type 0} {s : State} {from : Step} {r : Result (A × Step) Refused} {next : A → State} {v : A} {p : Step} → r ≡ Ok (v, p) → Leads s from r next → Reaches s from (next v) p
+led is l = (rw is at l).says
 
 -- the reply to a text is that from the step before its first word on
 pub from-start : {s : State} {t : List ℕ} {start : Step} {r : Reply} → Before t 0 start → Replies s start r → r ≡ reply_of t (run_at s t 0)

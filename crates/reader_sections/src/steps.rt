@@ -1,5 +1,5 @@
-// One word at a step: required, perhaps there, or refused. Inlined: a call hands its step and its answer over in memory, and every word of a
-// bulletin is read by these.
+// One word at a step: required, perhaps there, or refused. What most words go through is inlined: a call hands its step and its answer over in
+// memory.
 ghost use Rattle.std.specs.Prelude.{◌≡◌, ◌≤◌, ◌<◌, length};
 ghost use Rattle.figures.specs.Codes.{code_of};
 ghost use Rattle.reader_sections.specs.Steps.{word_on, Before, Next, Refuses, Required, Fixed, Long, Perhaps, Ended};

@@ -16,7 +16,6 @@ use Rattle.message.specs.declared.Record.{Record}
 use Rattle.message.specs.Limits.{ws}
 use Rattle.message.specs.Locations.{no_extent}
 use Rattle.grammar.specs.Records.{report_of}
-use Rattle.grammar.specs.States.State.{at_ending}
 use Rattle.grammar.specs.Steps.{step_ending, step}
 use Rattle.reader_sections.specs.declared.ending.UpToLevel.{UpToLevel}
 use Rattle.reader_sections.specs.declared.step.Step.{Step}
@@ -25,6 +24,7 @@ use Rattle.reader_sections.specs.Steps.{next_word, word_on}
 use Rattle.reader_sections.proofs.Leads.{accepts, replies-err}
 use Rattle.reader_sections.proofs.OneWord.{code-no}
 use Rattle.reader_sections.proofs.ending.read_ending.Goals as goal
+use Rattle.reader_sections.proofs.ending.read_ending.Goals.{Then-foresees, Else-foresees}
 
 abbrev neither : ℕ → Bool
 neither code = both (not (eqb code code-mov)) (not (eqb code code-stnr))
@@ -49,26 +49,21 @@ moved known e = report_of (level_in known) e no_extent
 abbrev foreseen-at : (known : UpToLevel) → ℕ × Extent → Record
 foreseen-at known f = report_of (level_in known) (Forecast f.0) f.1
 
+read-forecast : (c : Then-foresees) → Forecasts (level_in c.args.known) (next_word c.args.step)
+read-forecast c = forecast c.args.known c.args.step c.code.ensures c.foresees.ensures c.if-foresees.true
+
+read-movement : (c : Else-foresees) → Unforeseen (code_of (word_on c.args.step)) (level_in c.args.known)
+read-movement c = unforeseen c.args.known c.args.step c.code.ensures c.foresees.ensures c.if-foresees.false
+
 pub returns-in-Ok : goal.returns-in-Ok
-returns-in-Ok c =
-    accepts (c.in-Ok.ensures (at_ending (level_in c.args.known)) c.args.step (foreseen-at c.args.known)
-    (c.read_forecast.ensures (forecast c.args.known c.args.step c.code.ensures c.foresees.ensures c.if-foresees.true))).says
-    c.accepted.ensures
+returns-in-Ok c = accepts (c.in-Ok.ensures _ _ (foreseen-at c.args.known) (c.read_forecast.ensures (read-forecast (goal.at.returns-in-Ok c).Then-foresees))).says c.accepted.ensures
 
 pub returns-in-Err : goal.returns-in-Err
-returns-in-Err c =
-    replies-err (c.in-Err.ensures (at_ending (level_in c.args.known)) c.args.step (foreseen-at c.args.known)
-    (c.read_forecast.ensures (forecast c.args.known c.args.step c.code.ensures c.foresees.ensures c.if-foresees.true))).says
-    c.reply.ensures
+returns-in-Err c = replies-err (c.in-Err.ensures _ _ (foreseen-at c.args.known) (c.read_forecast.ensures (read-forecast (goal.at.returns-in-Err c).Then-foresees))).says c.reply.ensures
 
 pub returns-in-Ok-concluded : goal.returns-in-Ok-concluded
 returns-in-Ok-concluded c =
-    accepts (c.in-Ok-concluded.ensures (at_ending (level_in c.args.known)) c.args.step (moved c.args.known)
-    (c.read_movement.ensures (level_in c.args.known) (unforeseen c.args.known c.args.step c.code.ensures c.foresees.ensures c.if-foresees.false))).says
-    c.accepted-in-Ok-concluded.ensures
+    accepts (c.in-Ok-concluded.ensures _ _ (moved c.args.known) (c.read_movement.ensures _ (read-movement (goal.at.returns-in-Ok-concluded c).Else-foresees))).says c.accepted-in-Ok-concluded.ensures
 
 pub returns : goal.returns
-returns c =
-    replies-err (c.in-Err-concluded.ensures (at_ending (level_in c.args.known)) c.args.step (moved c.args.known)
-    (c.read_movement.ensures (level_in c.args.known) (unforeseen c.args.known c.args.step c.code.ensures c.foresees.ensures c.if-foresees.false))).says
-    c.reply-in-Err-concluded.ensures
+returns c = replies-err (c.in-Err-concluded.ensures _ _ (moved c.args.known) (c.read_movement.ensures _ (read-movement (goal.at.returns c).Else-foresees))).says c.reply-in-Err-concluded.ensures
