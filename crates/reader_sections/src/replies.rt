@@ -1,5 +1,5 @@
-// How a reading ends. What reads up to the `=` answers with the reply: a `Result` of a whole record would be cleared and copied at each return, and
-// so is what two arms of a `match` join in, so that an arm with a reply returns it.
+// How a reading ends. What reads up to the `=` answers with the reply: a `Result` of a whole record would be cleared and copied at each return. So
+// is what two arms of a `match` join in: where a report is read, the arm that goes on returns its reply.
 ghost use Rattle.std.specs.Prelude.{◌≡◌};
 ghost use Rattle.message.specs.declared.Record.{Record};
 ghost use Rattle.grammar.specs.Bulletins.{acceptance, refusal as refusal_of};
